@@ -1,0 +1,93 @@
+-- Rows read from bytes.
+use Prim.Native.Nat.{ℕ, zero, suc, _+_, _-_, _*_, _/_, _^_, _≤_, _<_, min}
+use mathlib.Core.Path.{_≡_, refl, sym, ap, _∙_}
+use mathlib.Core.List.{List, [], _∷_, _++_, append-assoc}
+use native.Mathlib.Omega.{arith}
+use native.Mathlib.Numerals.{add-one}
+use lib.ListN.{length, drop, set, getD, length-append, length-drop}
+use native.Mathlib.Nat.{add-zero, add-assoc}
+use lib.Seq.{drop-cons, set-at, drop-drop, getD-drop}
+use Rattle.words.specs.Bits.{field}
+use Rattle.words.proofs.Laws.Bits.{split-field}
+use Rattle.logbytes.specs.Bytes.{wordAt, readRows, rowsOf, readInto, bytesOf}
+
+pub read-length : (k : ℕ) (b : List ℕ) → length (readRows k b) ≡ k
+unfolding readRows
+read-length zero b = refl
+read-length (suc k) b = ap suc (read-length k (drop 8 b))
+
+-- one row more, at the end
+read-suc : (k : ℕ) (b : List ℕ) → readRows (suc k) b ≡ readRows k b ++ (wordAt (drop (k * 8) b) 0 ∷ [])
+unfolding readRows
+read-suc zero b = refl
+read-suc (suc k) b =
+    let e : suc k * 8 ≡ 8 + k * 8 = omega arith in
+    ap (λ (l : List ℕ). wordAt b 0 ∷ l) (rw (e, ← drop-drop (k * 8) 8 b) (read-suc k (drop 8 b)))
+
+word-behind : (b : List ℕ) (m : ℕ) → wordAt (drop m b) 0 ≡ wordAt b m
+word-behind b m = simp (getD-drop, add-zero, add-assoc)
+
+-- a list filled from the front, by one element more
+push : {A : Type 0} (p d : List A) (i : ℕ) (v : A) → length p ≡ i → i < length d
+    → set (p ++ drop i d) i v ≡ (p ++ (v ∷ [])) ++ drop (i + 1) d
+push p d i v e h =
+    rw (add-one, drop-cons d i v, set-at p (getD d i v) (drop (suc i) d) v i e) (sym (append-assoc p (v ∷ []) (drop (suc i) d)))
+
+-- the turn of a loop that reads row i
+pub read-next : (i : ℕ) (b d : List ℕ) → i < length d
+    → set (readRows i b ++ drop i d) i (wordAt b (i * 8)) ≡ readRows (i + 1) b ++ drop (i + 1) d
+read-next i b d h =
+    push (readRows i b) d i (wordAt b (i * 8)) (read-length i b) h
+    ∙ ap (λ (l : List ℕ). l ++ drop (i + 1) d) (sym more)
+  where
+    more : readRows (i + 1) b ≡ readRows i b ++ (wordAt b (i * 8) ∷ [])
+    more =
+        ap (λ (k : ℕ). readRows k b) (add-one i)
+        ∙ read-suc i b
+        ∙ ap (λ (w : ℕ). readRows i b ++ (w ∷ [])) (word-behind b (i * 8))
+
+pub filled-length : (i : ℕ) (b d : List ℕ) → i ≤ length d → length (readRows i b ++ drop i d) ≡ length d
+filled-length i b d h = simp (length-append, length-drop, read-length) (omega arith)
+
+pub read-all : (b d : List ℕ) → length b / 8 ≤ length d → readInto b d ≡ rowsOf b ++ drop (length b / 8) d
+unfolding readInto rowsOf
+read-all b d h =
+    let e : min (length b / 8) (length d) ≡ length b / 8 = omega arith in
+    rw e
+
+-- a word by its bytes and the bits above each
+joined : (w w8 w16 w24 w32 w40 w48 w56 a b c d e f g h : ℕ) → w ≡ w8 * 2 ^ 8 + h
+    → w8 ≡ w16 * 2 ^ 8 + g
+    → w16 ≡ w24 * 2 ^ 8 + f
+    → w24 ≡ w32 * 2 ^ 8 + e
+    → w32 ≡ w40 * 2 ^ 8 + d
+    → w40 ≡ w48 * 2 ^ 8 + c
+    → w48 ≡ w56 * 2 ^ 8 + b
+    → w56 ≡ a
+    → (a * 2 ^ 24 + b * 2 ^ 16 + c * 2 ^ 8 + d) * 2 ^ 32 + (e * 2 ^ 24 + f * 2 ^ 16 + g * 2 ^ 8 + h) ≡ w
+joined w w8 w16 w24 w32 w40 w48 w56 a b c d e f g h e0 e1 e2 e3 e4 e5 e6 e7 = omega arith
+
+-- the bytes of rows give the rows back,
+word-bytes : (w : ℕ) (ws : List ℕ) → w < 2 ^ 64 → wordAt (bytesOf (w ∷ ws)) 0 ≡ w
+unfolding bytesOf
+word-bytes w ws h =
+    let low : w ≡ w / 2 ^ 8 * 2 ^ 8 + field 0 8 w = omega arith in
+    let top : w / 2 ^ 56 ≡ field 56 8 w = omega arith in
+    joined w _ _ _ _ _ _ _ _ _ _ _ _ _ _ _ low (split-field 8 8 w) (split-field 16 8 w) (split-field 24 8 w)
+    (split-field 32 8 w) (split-field 40 8 w) (split-field 48 8 w) top
+
+bytes-length : (ws : List ℕ) → length (bytesOf ws) ≡ length ws * 8
+unfolding bytesOf
+bytes-length [] = refl
+bytes-length (w ∷ ws) = omega (arith, bytes-length ws)
+
+read-bytes : (ws : List ℕ) → ((k : ℕ) → getD ws k 0 < 2 ^ 64) → readRows (length ws) (bytesOf ws) ≡ ws
+unfolding readRows bytesOf
+read-bytes [] h = refl
+read-bytes (w ∷ ws) h = λ i. word-bytes w ws (h 0) i ∷ read-bytes ws (λ k. h (suc k)) i
+
+pub rows-bytes : (ws : List ℕ) → ((k : ℕ) → getD ws k 0 < 2 ^ 64) → rowsOf (bytesOf ws) ≡ ws
+unfolding rowsOf
+rows-bytes ws h =
+    let e : length (bytesOf ws) / 8 ≡ length ws = omega (arith, bytes-length ws) in
+    rw e (read-bytes ws h)

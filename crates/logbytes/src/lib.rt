@@ -1,0 +1,50 @@
+// A log as bytes.
+ghost use mathlib.Core.Path.{_≡_};
+ghost use Prim.Native.Nat.{_+_, _^_, _<_, _≤_, min};
+ghost use lib.ListN.{length, drop};
+ghost use Rattle.logbytes.specs.Bytes.{halfAt, wordAt, readInto};
+
+fn wide(x: u8) -> u64
+    ensures { λ r. ⌜ (r ≡ x) × (r < 256) ⌝ }
+{
+    x as u64
+}
+
+fn fewer(a: usize, b: usize) -> usize
+    ensures { λ r. ⌜ r ≡ min a b ⌝ }
+{
+    if a < b {
+        return a;
+    }
+    b
+}
+
+// The number in the four bytes from `at` on.
+fn half_at(bytes: &[u8], at: usize) -> u64
+    requires { ⌜ at + 4 ≤ length (now bytes) ⌝ }
+    ensures { λ r. ⌜ (r ≡ halfAt (now (bytes .entry)) at) × (r < 2 ^ 32) ⌝ }
+{
+    let high = wide(bytes[at]) * 256 + wide(bytes[at + 1]);
+    let low = wide(bytes[at + 2]) * 256 + wide(bytes[at + 3]);
+    high * 65536 + low
+}
+
+// The word in the eight bytes from `at` on.
+fn word_at(bytes: &[u8], at: usize) -> u64
+    requires { ⌜ at + 8 ≤ length (now bytes) ⌝ }
+    ensures { λ r. ⌜ r ≡ wordAt (now (bytes .entry)) at ⌝ }
+{
+    half_at(bytes, at) * 4294967296 + half_at(bytes, at + 4)
+}
+
+// Reads as many whole rows as there are, and as there is room for.
+pub fn read_rows(bytes: &[u8], rows: &mut [u64])
+    ensures { λ r. ⌜ now (rows .exit) ≡ readInto (now (bytes .entry)) (now (rows .entry)) ⌝ }
+{
+    let count = fewer(bytes.len() / 8, rows.len());
+    let mut i = 0;
+    while i < count {
+        rows[i] = word_at(bytes, i * 8);
+        i += 1;
+    }
+}

@@ -1,0 +1,1 @@
+// Document 01's sessions marked P, as one table that one fact covers: see specs/ for the table, proofs/ for the fact.

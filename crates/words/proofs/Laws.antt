@@ -1,0 +1,7 @@
+-- The laws of words, that callers use in place of the definitions' texts.
+pub mod Choice
+pub mod Bits
+pub mod Stamp
+pub mod Cell
+pub mod Row
+pub mod Index

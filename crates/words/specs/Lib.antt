@@ -1,0 +1,6 @@
+pub mod Choice
+pub mod Bits
+pub mod Stamp
+pub mod Cell
+pub mod Row
+pub mod Index

@@ -1,0 +1,931 @@
+#!/usr/bin/env python3
+"""Outside model of the arrow register and its judge, written from document 01 alone.
+
+    model.py bench              text on standard input, the bench's print on standard output
+    model.py verdict            one line for the log whose bytes are on standard input
+    model.py verdict FILE...    one line for each log file
+    model.py selftest           the sessions of document 01, and brute force against the sweep
+
+The sections stand in the order of document 01, the buyer's scope. Quoted words are its
+own; “Open:” marks a choice where it leaves a point open.
+"""
+
+import random
+import re
+import sys
+from bisect import bisect_left
+from collections import namedtuple
+from dataclasses import dataclass, field
+from itertools import count
+
+MAX_READERS = 16
+MAX_ROWS = 4096
+MAX_INPUT = 65536
+
+
+# ---------------------------------------------------------------------------- Words
+
+NONE = 63
+NO_STAMP = (NONE, NONE)  # “stamp none is (63,63) only”
+FIRST_STAMP = (0, 1)
+
+# A stamp is a pair (cur, prev); announced is such a pair too.
+Cell = namedtuple('Cell', 'reading stamp announced', defaults=(NO_STAMP,))
+
+
+def pack_cell(cell):
+    """“reading 32, cur 6, prev 6, announced cur 6, announced prev 6, zero 8”."""
+    word = cell.reading
+    for ticket in cell.stamp + cell.announced:
+        word = word << 6 | ticket
+    return word << 8
+
+
+def unpack_cell(word):
+    """The inverse of pack_cell."""
+    cur, prev, announced_cur, announced_prev = (word >> s & 63 for s in (26, 20, 14, 8))
+    return Cell(word >> 32, (cur, prev), (announced_cur, announced_prev))
+
+
+def others(n, i):
+    """“the other readers in rising order”."""
+    return [j for j in range(1, n + 1) if j != i]
+
+
+def cell_index(n, i, j):
+    """“The row of processor i starts at place n×i”: the place of the cell from i to j."""
+    row = list(range(1, n + 1)) if i == 0 else [0] + others(n, i)
+    return n * i + row.index(j)
+
+
+# ---------------------------------------------------------------------------- Register
+
+@dataclass
+class Operation:
+    """An open operation."""
+    reading: int = 0  # the write's reading; the read's result once an attempt gave it
+    stamp: tuple = NO_STAMP  # the write's new stamp; the result's stamp
+    moved: int = 0  # “the words this operation has moved”
+    attempt: int = 1  # of a read
+    seen: list = field(default_factory=list)  # cells read by the write or by this attempt
+
+
+class Register:
+    """One writer (processor 0) and readers 1..n over a lent table and a lent log.
+
+    Answers: ('refused', k), ('set up',), ('begun',), ('step', number). Question 4 is
+    left out: nothing but these calls changes the state, and then it refuses nothing.
+    """
+
+    def set_up(self, n, start, table, log):
+        """Questions 1 to 3, then “Fresh”, and “Set-up writes row 0 only”."""
+        if not 1 <= n <= MAX_READERS:
+            return ('refused', 1)
+        if len(table) < n * n + n:
+            return ('refused', 2)
+        if not 3 <= len(log) <= MAX_ROWS:
+            return ('refused', 3)
+        self.n, self.table, self.log, self.used = n, table, log, 0
+        self.own = [FIRST_STAMP] + [NO_STAMP] * n
+        self.open = [None] * (n + 1)
+        self.table[:n] = [pack_cell(Cell(start, FIRST_STAMP))] * n
+        self.table[n:n * n + n] = [pack_cell(Cell(0, NO_STAMP))] * (n * n)
+        self._add_row(5, n, start)
+        return ('set up',)
+
+    def begin_write(self, v):
+        """Begin of a write of v."""
+        return self._begin(0, 1, v)
+
+    def begin_read(self, i):
+        """“for a read 1..n (5)”; then as any begin."""
+        if not 1 <= i <= self.n:
+            return ('refused', 5)
+        return self._begin(i, 3, 0)
+
+    def _begin(self, p, kind, reading):
+        """“is it idle (6)? Are free rows at least open operations plus 2 (7)?”."""
+        if self.open[p] is not None:
+            return ('refused', 6)
+        busy = sum(operation is not None for operation in self.open)
+        if len(self.log) - self.used < busy + 2:
+            return ('refused', 7)
+        self.open[p] = Operation(reading)
+        self._add_row(kind, p, reading)
+        return ('begun',)
+
+    def step(self, p):
+        """Questions 5 and 8, then one sub-step; “A step tells its own sub-step number”."""
+        if not 0 <= p <= self.n:
+            return ('refused', 5)
+        operation = self.open[p]
+        if operation is None:
+            return ('refused', 8)
+        operation.moved += 1
+        if p == 0:
+            self._write_step(operation)
+        else:
+            self._read_step(p, operation)
+        return ('step', operation.moved)
+
+    # A write of v: 2n sub-steps
+
+    def _write_step(self, write):
+        """“Sub-steps 1..n read the readers' cells”, “n+1..2n store v with the new stamp”."""
+        n, k = self.n, write.moved
+        if k <= n:
+            write.seen.append(self._load(k, 0))
+            return
+        if k == n + 1:
+            write.stamp = (new_ticket(write.seen, self.own[0]), self.own[0][0])
+        self._store(0, k - n, Cell(write.reading, write.stamp))
+        if k == 2 * n:
+            self._end(0, write.stamp, 2, 0)
+
+    # A read by reader i
+
+    def _read_step(self, i, read):
+        """“One attempt has n+3 sub-steps”; “Then n sub-steps store”."""
+        k = read.moved - (read.attempt - 1) * (self.n + 3)
+        if k <= self.n + 3:
+            self._attempt_step(i, read, k)
+        else:
+            self._result_step(i, read, k - (self.n + 3))
+
+    def _attempt_step(self, i, read, k):
+        """First look; announce it; second look; the other readers' cells; third look."""
+        if k == 2:
+            self._store(i, 0, Cell(0, self.own[i], read.seen[0].stamp))
+            return
+        source = others(self.n, i)[k - 4] if 4 <= k <= self.n + 2 else 0
+        read.seen.append(self._load(source, i))
+        if k == self.n + 3:
+            close_attempt(read)
+
+    def _result_step(self, i, read, k):
+        """“to the other readers in rising order the result (for stamp none, reading 0),
+        and last of all to the writer reading 0, the result's stamp, announced none”."""
+        if k < self.n:
+            shown = 0 if read.stamp == NO_STAMP else read.reading
+            self._store(i, others(self.n, i)[k - 1], Cell(shown, read.stamp))
+        else:
+            self._store(i, 0, Cell(0, read.stamp))
+            self._end(i, read.stamp, 4, read.reading)
+
+    # Words moved and rows added
+
+    def _load(self, i, j):
+        return unpack_cell(self.table[cell_index(self.n, i, j)])
+
+    def _store(self, i, j, cell):
+        self.table[cell_index(self.n, i, j)] = pack_cell(cell)
+
+    def _add_row(self, kind, p, reading):
+        self.log[self.used] = pack_row(kind, p, reading)
+        self.used += 1
+
+    def _end(self, p, stamp, kind, reading):
+        """“the write's or result's stamp becomes the processor's own; the processor is idle”."""
+        self._add_row(kind, p, reading)
+        self.own[p] = stamp
+        self.open[p] = None
+
+
+def new_ticket(cells, own):
+    """“the smallest that is not barred”: by each cell's prev and announced pair, by own."""
+    barred = set(own)
+    for cell in cells:
+        barred.update((cell.stamp[1],) + cell.announced)
+    barred.discard(NONE)  # “None bars nothing”
+    return next(ticket for ticket in count() if ticket not in barred)
+
+
+def close_attempt(read):
+    """After the third look: the result, or a second attempt."""
+    first, second, *helpers, third = read.seen
+    if first.stamp == second.stamp == third.stamp:
+        result = next((c for c in helpers if c.stamp[1] == third.stamp[0]), third)
+        read.reading, read.stamp = result.reading, result.stamp
+    elif read.attempt == 1:
+        read.attempt, read.seen = 2, []
+    else:
+        read.reading, read.stamp = first.reading, NO_STAMP
+
+
+# ---------------------------------------------------------------------------- Log
+
+Row = namedtuple('Row', 'kind processor zero reading')
+
+
+def pack_row(kind, processor, reading):
+    """“Rows of 64 bits: kind 4, processor 8, zero 20, reading 32”."""
+    return kind << 60 | processor << 52 | reading
+
+
+def unpack_row(word):
+    """The fields of a row; the zero bits too, as the judge asks about them."""
+    return Row(word >> 60, word >> 52 & 0xFF, word >> 32 & 0xFFFFF, word & 0xFFFFFFFF)
+
+
+def listing(rows):
+    """“Row number, letter, reader for reads, reading for W and r”."""
+    head = unpack_row(rows[0])
+    yield f'readers {head.processor} start {head.reading}'
+    for number, row in enumerate(map(unpack_row, rows[1:]), 1):
+        yield {
+            1: f'{number} W {row.reading}',
+            2: f'{number} w',
+            3: f'{number} R {row.processor}',
+            4: f'{number} r {row.processor} {row.reading}',
+        }[row.kind]
+
+
+# ---------------------------------------------------------------------------- The order
+# First by the definition, for small logs. Judgments are ('order', begin rows) or
+# ('refused', 12, row).
+
+# A write or a read with its begin row, its end row (None while unended) and its reading.
+Deed = namedtuple('Deed', 'is_write begin end reading')
+
+
+def deeds_of(rows):
+    """The operations of a well-formed log, by begin row."""
+    begun, deeds = {}, []
+    for r, row in enumerate(map(unpack_row, rows[1:]), 1):
+        if row.kind in (1, 3):
+            begun[row.processor] = (r, row.reading)
+        else:
+            begin, reading = begun.pop(row.processor)
+            is_write = row.kind == 2
+            deeds.append(Deed(is_write, begin, r, reading if is_write else row.reading))
+    for processor, (begin, reading) in begun.items():
+        deeds.append(Deed(processor == 0, begin, None, reading))
+    return sorted(deeds, key=lambda deed: deed.begin)
+
+
+def precedes(a, b):
+    """“Operation a precedes b if a's end row is before b's begin row”."""
+    return a.end is not None and a.end < b.begin
+
+
+def is_order(sequence, start):
+    """“It respects precedence. Each read has the reading of the last write before it, or
+    the start reading”."""
+    last = start
+    for place, deed in enumerate(sequence):
+        if any(precedes(later, deed) for later in sequence[place + 1:]):
+            return False
+        if deed.is_write:
+            last = deed.reading
+        elif deed.reading != last:
+            return False
+    return True
+
+
+def arrangements(done, rest, last):
+    """Every order that begins with done and goes on with rest, pruned as it grows."""
+    if not rest:
+        yield done
+    for deed in rest:
+        fits = deed.is_write or deed.reading == last
+        if fits and not any(precedes(other, deed) for other in rest):
+            left = [other for other in rest if other is not deed]
+            follow = deed.reading if deed.is_write else last
+            yield from arrangements(done + [deed], left, follow)
+
+
+def orders(deeds, start):
+    """“An order holds every ended operation and, if wanted, the unended write; unended
+    reads are dropped”."""
+    ended = [deed for deed in deeds if deed.end is not None]
+    yield from arrangements([], ended, start)
+    for write in deeds:
+        if write.is_write and write.end is None:
+            yield from arrangements([], ended + [write], start)
+
+
+def earliest_writes(deeds, start):
+    """For each read the begin row of “the earliest write that any order gives it” (0: the
+    start); None if there is no order."""
+    earliest = None
+    for order in orders(deeds, start):
+        earliest = {} if earliest is None else earliest
+        last = 0
+        for deed in order:
+            if deed.is_write:
+                last = deed.begin
+            else:
+                earliest[deed] = min(last, earliest.get(deed, last))
+    return earliest
+
+
+def earliest_placed(deeds, earliest):
+    """“Reads behind one write go by begin row. The unended write is listed only if a read
+    stands behind it”."""
+    def behind(row):
+        return sorted((d for d in earliest if earliest[d] == row), key=lambda d: d.begin)
+
+    order = behind(0)
+    for write in (deed for deed in deeds if deed.is_write):
+        reads = behind(write.begin)
+        if write.end is not None or reads:
+            order += [write] + reads
+    return order
+
+
+def first_without_order(deeds, start):
+    """“the begin row of the first read, by begin row, such that it and those begun before
+    it already have none”. Open: all writes are kept."""
+    for read in deeds:
+        if not read.is_write and read.end is not None:
+            kept = [d for d in deeds if d.is_write or d.begin <= read.begin]
+            if next(orders(kept, start), None) is None:
+                return read.begin
+    raise Mismatch('no order, yet every part has one')
+
+
+def brute(rows):
+    """The judgment of a small well-formed log, literally by the definition."""
+    start, deeds = unpack_row(rows[0]).reading, deeds_of(rows)
+    earliest = earliest_writes(deeds, start)
+    if earliest is None:
+        return ('refused', 12, first_without_order(deeds, start))
+    order = earliest_placed(deeds, earliest)
+    must(is_order(order, start), 'the earliest-placed order is an order')
+    return ('order', [deed.begin for deed in order])
+
+
+# The same judgment in one pass over the rows.
+#
+# There is one writer, so an order is a choice, for each ended read, of the write q that it
+# stands behind, named by its begin row (0: the start). Such a choice with equal readings
+# gives an order exactly if each q is
+#   - before the read's end row (else the read precedes that write),
+#   - not below the newest write that ended before the read's begin row (else that write
+#     precedes the read), and
+#   - not below the q of any read that ended before that row (else that read precedes this).
+# These are needed; and with them the writes by begin row, each followed by its reads by
+# begin row, respect precedence. The last two bounds are the floor: F at the read's begin, F
+# being the newest write shown by an ended operation. Going by end row, the least q at or
+# above the floor is, by induction, at most the q that any order gives the read, since its
+# floor comes from least choices too. So if a read finds none there is no order, and
+# otherwise the least choices are the earliest-placed order.
+#
+# The floor of a read depends only on writes and on reads that ended before it began, and
+# these began before it. So up to the least failing begin row a read's floor is the same
+# whether later reads are kept or not: the reads begun no later than a row have an order
+# exactly if none of them fails. The row of refusal 12 is thus the least begin row of a
+# failing read. (Whether a failing read raises F matters only to reads begun later.)
+
+def sweep(rows):
+    """The judgment of a well-formed log of any length."""
+    places = {unpack_row(rows[0]).reading: [0]}  # reading: its writes begun so far
+    reads_behind = {0: []}  # write: the reads placed behind it, by end row
+    newest = write = 0
+    write_open = False
+    floor, begin, failing = {}, {}, []
+    for r, (kind, p, _, reading) in enumerate(map(unpack_row, rows[1:]), 1):
+        if kind == 1:
+            write, write_open = r, True
+            places.setdefault(reading, []).append(r)
+            reads_behind[r] = []
+        elif kind == 2:
+            newest, write_open = write, False
+        elif kind == 3:
+            begin[p], floor[p] = r, newest
+        else:
+            writes = places.get(reading, [])
+            at = bisect_left(writes, floor[p])
+            if at == len(writes):
+                failing.append(begin[p])
+            else:
+                newest = max(newest, writes[at])
+                reads_behind[writes[at]].append(begin[p])
+    if failing:
+        return ('refused', 12, min(failing))
+    if write_open and not reads_behind[write]:
+        del reads_behind[write]
+    order = [b for q, reads in reads_behind.items() for b in [q] + sorted(reads)]
+    return ('order', order[1:])  # without the start
+
+
+# ---------------------------------------------------------------------------- Questions
+
+def row_0_well_formed(row):
+    """“row 0 as above with n 1 to 16”."""
+    return row.kind == 5 and 1 <= row.processor <= MAX_READERS and row.zero == 0
+
+
+def later_row_well_formed(row, n):
+    """“later rows kinds 1 to 4, zero bits and the readings of kinds 2 and 3 zero,
+    processor 0 for kinds 1 and 2, 1..n for 3 and 4”."""
+    if row.kind not in (1, 2, 3, 4) or row.zero != 0:
+        return False
+    if row.kind in (2, 3) and row.reading != 0:
+        return False
+    return row.processor == 0 if row.kind in (1, 2) else 1 <= row.processor <= n
+
+
+def alternating(later):
+    """“begins and ends alternating per processor, a begin first”."""
+    busy = set()
+    for row in later:
+        if (row.kind in (1, 3)) == (row.processor in busy):
+            return False
+        busy ^= {row.processor}
+    return True
+
+
+def well_formed(rows):
+    """Question 10."""
+    head, *later = map(unpack_row, rows)
+    return (row_0_well_formed(head)
+            and all(later_row_well_formed(row, head.processor) for row in later)
+            and alternating(later))
+
+
+def begin_rows(rows):
+    """How many begin rows a log has. Open: unended ones are counted too."""
+    return sum(row >> 60 in (1, 3) for row in rows)
+
+
+def judge(rows, order_places=None):
+    """Questions 9 to 12; 11 only if a number of order places is given."""
+    if not 1 <= len(rows) <= MAX_ROWS:
+        return ('refused', 9)
+    if not well_formed(rows):
+        return ('refused', 10)
+    if order_places is not None and order_places < begin_rows(rows):
+        return ('refused', 11)
+    return sweep(rows)
+
+
+def bytes_of(rows):
+    """“the log as bytes, eight a row, most significant first”."""
+    return b''.join(row.to_bytes(8, 'big') for row in rows)
+
+
+def rows_of(data):
+    """The inverse of bytes_of, for a length that is a multiple of 8."""
+    return [int.from_bytes(data[at:at + 8], 'big') for at in range(0, len(data), 8)]
+
+
+def judge_bytes(data):
+    """“no order buffer”; “a length not a multiple of 8 is 9”."""
+    return ('refused', 9) if len(data) % 8 else judge(rows_of(data))
+
+
+def verdict(answer):
+    """A judgment as one line; “order and the begin rows, or no order and the row”."""
+    if answer[0] == 'order':
+        return ' '.join(['order'] + [str(row) for row in answer[1]])
+    if answer[1] == 12:
+        return f'no order {answer[2]}'
+    return f'refused {answer[1]}'
+
+
+# ---------------------------------------------------------------------------- Bench
+
+FIRST_LINE = re.compile(rb'([0-9]+) ([0-9]+)')
+CALL_LINE = re.compile(rb'([WRS]) ([0-9]+)')
+
+
+def number_of(digits):
+    """A decimal of at most 32 bits, “leading zeros allowed”; None if it is larger.
+    Open: any number of leading zeros."""
+    digits = digits.lstrip(b'0') or b'0'
+    return int(digits) if len(digits) <= 10 and int(digits) < 1 << 32 else None
+
+
+def first_line(line):
+    """n and the start reading, or None."""
+    match = FIRST_LINE.fullmatch(line)
+    numbers = match and tuple(map(number_of, match.groups()))
+    return numbers if numbers and None not in numbers else None
+
+
+def call_line(line):
+    """A call's letter and number, or None."""
+    match = CALL_LINE.fullmatch(line)
+    number = match and number_of(match[2])
+    return None if number is None else (match[1], number)
+
+
+def bench_lines(data):
+    """What the bench prints. Open: calls before a bad line are made and their refusals
+    printed; a refused set-up stands before any later bad line; a last line without a line
+    feed is bad and its call is not made."""
+    *lines, tail = data.split(b'\n')
+    head = first_line(lines[0]) if lines and len(data) <= MAX_INPUT else None
+    if head is None:
+        yield 'bad line 1'
+        return
+    n, start = head
+    cells = n * n + n if n <= MAX_READERS else 0
+    register = Register()
+    answer = register.set_up(n, start, [0] * cells, [0] * MAX_ROWS)
+    if answer[0] == 'refused':
+        yield f'refused {answer[1]}'
+        return
+    calls = {b'W': register.begin_write, b'R': register.begin_read, b'S': register.step}
+    for k, line in enumerate(lines[1:], 2):
+        call = call_line(line)
+        if call is None:
+            yield f'bad line {k}'
+            return
+        answer = calls[call[0]](call[1])
+        if answer[0] == 'refused':
+            yield f'refused {answer[1]}'
+    if tail:
+        yield f'bad line {len(lines) + 1}'
+        return
+    rows = register.log[:register.used]
+    yield from listing(rows)
+    yield verdict(judge(rows))
+
+
+def bench(data):
+    """The bench's whole print for the bytes of its input."""
+    return ''.join(line + '\n' for line in bench_lines(data))
+
+
+# ---------------------------------------------------------------------------- Sessions
+# The self-test, and makers of logs that other test programs may use. A maker's pick(k)
+# gives a number from 0 to k-1.
+
+class Mismatch(Exception):
+    """The model contradicts document 01 or itself."""
+
+
+def must(holds, what):
+    """Stop at the first mismatch."""
+    if not holds:
+        raise Mismatch(what)
+
+
+def equal(got, wanted, what):
+    """Stop at the first difference."""
+    must(got == wanted, f'{what}: {str(got)[:200]!r}, wanted {str(wanted)[:200]!r}')
+
+
+def log_of(n, start, text=''):
+    """A log from words like 'W 5, R 1, r 1 5, w'."""
+    rows = [pack_row(5, n, start)]
+    for words in (part.split() for part in text.split(',') if part):
+        kind = 'WwRr'.index(words[0]) + 1
+        processor = int(words[1]) if kind >= 3 else 0
+        rows.append(pack_row(kind, processor, int(words[-1]) if kind in (1, 4) else 0))
+    return rows
+
+
+def random_log(pick, n, length, readings):
+    """A well-formed log whose results are guesses out of a few readings."""
+    rows, busy = [pack_row(5, n, pick(readings))], set()
+    while len(rows) < length:
+        p = pick(n + 1)
+        kind = (1 if p == 0 else 3) + (p in busy)
+        rows.append(pack_row(kind, p, pick(readings) if kind in (1, 4) else 0))
+        busy ^= {p}
+    return rows
+
+
+def run_register(pick, register, length, readings, burst):
+    """Calls at random, a processor's in bursts, until the log has this many rows, fewer
+    than it can hold."""
+    while register.used < length:
+        p = pick(register.n + 1)
+        for _ in range(1 + pick(burst)):
+            if register.open[p] is not None:
+                register.step(p)
+            elif p == 0:
+                register.begin_write(pick(readings))
+            else:
+                register.begin_read(p)
+            if register.used == length:
+                break
+
+
+def fresh_register(n, start, spare=0, rows=MAX_ROWS):
+    """A register just set up; words not yet written hold -1."""
+    register = Register()
+    answer = register.set_up(n, start, [-1] * (n * n + n + spare), [-1] * rows)
+    equal(answer, ('set up',), 'set-up')
+    return register
+
+
+def register_log(pick, n, start, length, readings, burst):
+    """A log of the register under a random schedule."""
+    register = fresh_register(n, start)
+    run_register(pick, register, length, readings, burst)
+    return register.log[:length]
+
+
+def damaged(pick, rows, readings):
+    """A log with one read's result replaced by another reading, 0 to readings; the same
+    log if no read has ended."""
+    ends = [r for r, row in enumerate(rows) if row >> 60 == 4]
+    if not ends:
+        return rows
+    r = ends[pick(len(ends))]
+    row = unpack_row(rows[r])
+    reading = (row.reading + 1 + pick(readings)) % (readings + 1)
+    return rows[:r] + [pack_row(row.kind, row.processor, reading)] + rows[r + 1:]
+
+
+def steps(register, p, times):
+    """So many sub-steps of p; the last answer."""
+    for _ in range(times):
+        answer = register.step(p)
+    return answer
+
+
+def whole_write(register, v):
+    """A write from its begin to its end; the last answer."""
+    equal(register.begin_write(v), ('begun',), 'begin of a write')
+    return steps(register, 0, 2 * register.n)
+
+
+def last_result(register):
+    """The reading of the last row, which must end a read."""
+    row = unpack_row(register.log[register.used - 1])
+    equal(row.kind, 4, 'kind of the last row')
+    return row.reading
+
+
+def cell_text(register, place):
+    """A cell as the sessions show it."""
+    return f'{register.table[place]:016X}'
+
+
+def test_words():
+    """Round trips, and that the rows of the processors fill the table once."""
+    pick = random.Random(1).getrandbits
+    for _ in range(200):
+        word = pick(64)
+        equal(pack_cell(unpack_cell(word)), word >> 8 << 8, 'cell')
+        row = unpack_row(word)
+        equal(pack_row(row.kind, row.processor, row.reading) | row.zero << 32, word, 'row')
+    for n in range(1, MAX_READERS + 1):
+        places = [cell_index(n, i, j) for i in range(n + 1) for j in range(n + 1) if i != j]
+        equal(places, list(range(n * n + n)), f'places for {n} readers')
+
+
+def test_cell_sessions():
+    """The sessions that show cells, n=1."""
+    register = fresh_register(1, 7)
+    equal(cell_text(register, 0), '00000007001FFF00', 'fresh cell 0')
+    equal(cell_text(register, 1), '00000000FFFFFF00', 'fresh cell 1')
+    for v, stamp in ((9, (2, 0)), (8, (1, 2)), (7, (0, 1))):
+        equal(whole_write(register, v), ('step', 2), 'last sub-step of a write')
+        equal(unpack_cell(register.table[0]), Cell(v, stamp), 'cell after a write')
+        if v == 9:
+            equal(cell_text(register, 0), '00000009080FFF00', 'cell 0 after the first write')
+    register = fresh_register(1, 7)
+    equal(register.begin_read(1), ('begun',), 'begin of a read')
+    steps(register, 1, 2)
+    equal(cell_text(register, 1), '00000000FFF00100', 'cell 1 after two sub-steps')
+    equal(steps(register, 1, 3), ('step', 5), 'last sub-step of a read')
+    equal(cell_text(register, 1), '00000000001FFF00', 'cell 1 after the read')
+
+
+def test_run_sessions():
+    """The sessions that show results and rows."""
+    register = fresh_register(1, 7)
+    register.begin_read(1)
+    steps(register, 1, 1)
+    whole_write(register, 9)
+    equal(steps(register, 1, 8), ('step', 9), 'last sub-step of the second attempt')
+    equal(last_result(register), 9, 'result of the second attempt')
+    equal(register.step(1), ('refused', 8), 'sub-step after the end')
+
+    register = fresh_register(2, 7)
+    register.begin_write(9)
+    steps(register, 0, 3)
+    for reader in (1, 2):
+        register.begin_read(reader)
+        equal(steps(register, reader, 7), ('step', 7), 'last sub-step of a read')
+        equal(last_result(register), 9, f'result of reader {reader}')
+
+    equal(f'{pack_row(1, 0, 9):016X}', '1000000000000009', 'row W 9')
+    equal(f'{pack_row(4, 1, 9):016X}', '4010000000000009', 'row r 1 9')
+
+
+def changed_places(register, p, times):
+    """The place that each of p's next sub-steps alters, or None."""
+    places = []
+    for _ in range(times):
+        before = list(register.table)
+        register.step(p)
+        altered = [at for at, word in enumerate(register.table) if word != before[at]]
+        must(len(altered) <= 1, 'one word a sub-step')
+        places += altered or [None]
+    return places
+
+
+def test_rules():
+    """Rules that no session shows."""
+    register = fresh_register(3, 7)  # which word each sub-step moves
+    register.begin_write(9)
+    equal(changed_places(register, 0, 6), [None] * 3 + [0, 1, 2], 'stores of a write')
+    register.begin_read(2)
+    equal(changed_places(register, 2, 9), [None, 6] + [None] * 4 + [7, 8, 6], 'stores of a read')
+
+    register = fresh_register(1, 7)  # only the second look differs
+    register.begin_read(1)
+    steps(register, 1, 1)
+    whole_write(register, 1)
+    whole_write(register, 2)
+    register.begin_write(3)
+    steps(register, 0, 1)
+    steps(register, 1, 2)
+    steps(register, 0, 1)
+    equal(unpack_cell(register.table[0]).stamp, FIRST_STAMP, 'first and third look agree')
+    equal(steps(register, 1, 6), ('step', 9), 'last sub-step of the second attempt')
+    equal(last_result(register), 3, 'result of the second attempt')
+
+    register = fresh_register(2, 7)  # both attempts fail
+    register.begin_read(1)
+    for v in (8, 9):
+        steps(register, 1, 1)
+        whole_write(register, v)
+        steps(register, 1, 4)
+    equal(steps(register, 1, 2), ('step', 12), 'last sub-step after two attempts')
+    equal(last_result(register), 8, 'the second attempt\'s first look')
+    for j in (0, 2):
+        equal(register.table[cell_index(2, 1, j)], pack_cell(Cell(0, NO_STAMP)), 'stamp none')
+
+
+def test_register_questions():
+    """Questions 1 to 3 and 5 to 8, each with a call that the next question would refuse."""
+    for n, cells, rows, number in ((0, 0, 2, 1), (17, 0, 2, 1), (2, 5, 2, 2),
+                                   (2, 6, 2, 3), (2, 6, MAX_ROWS + 1, 3)):
+        answer = Register().set_up(n, 7, [0] * cells, [0] * rows)
+        equal(answer, ('refused', number), f'set-up with {n}, {cells}, {rows}')
+    register = fresh_register(1, 7, rows=3)
+    for reader in (0, 2):
+        equal(register.begin_read(reader), ('refused', 5), 'begin of no reader')
+    equal(register.step(2), ('refused', 5), 'sub-step of no processor')
+    equal(register.step(1), ('refused', 8), 'sub-step of an idle reader')
+    equal(register.begin_read(1), ('begun',), 'a log of 3: the one operation')
+    equal(register.begin_read(1), ('refused', 6), 'begin of an open reader')
+    equal(register.begin_write(1), ('refused', 7), 'a log of 3: a second open operation')
+    equal(steps(register, 1, 5), ('step', 5), 'a log of 3: the end')
+    equal(register.begin_write(1), ('refused', 7), 'a log of 3: the next begin')
+
+
+JUDGE_SESSIONS = [
+    (2, 7, 'W 5, R 1, r 1 5, R 2, r 2 7', 'no order 4'),
+    (2, 7, 'W 5, R 2, r 2 7, R 1, r 1 5', 'order 2 1 4'),
+    (2, 7, 'W 5, R 1, w, W 6, w, W 5, r 1 5, R 2, r 2 6', 'order 1 2 4 8'),
+    (2, 7, '', 'order'),
+    # Open: all writes are kept when the row of refusal 12 is sought.
+    (2, 7, 'R 1, W 5, w, r 1 5, R 2, r 2 7', 'no order 5'),
+]
+
+MALFORMED = [
+    [0x1000000000000007], [0x5000000000000007], [0x5110000000000007], [0x5010000100000007],
+    [0x5010000000000007, 0x0000000000000000], [0x5010000000000007, 0x5010000000000007],
+    [0x5010000000000007, 0x1000000100000005], [0x5010000000000007, 0x1010000000000005],
+    [0x5010000000000007, 0x3000000000000000], [0x5010000000000007, 0x3020000000000000],
+    [0x5010000000000007, 0x3010000000000001], [0x5010000000000007, 0x2000000000000000],
+    [0x5010000000000007, 0x1000000000000005, 0x2000000000000005],
+    [0x5010000000000007, 0x1000000000000005, 0x1000000000000005],
+]
+
+
+def test_judge_questions():
+    """The judge's sessions and questions 9 to 11."""
+    for n, start, text, line in JUDGE_SESSIONS:
+        rows = log_of(n, start, text)
+        equal(verdict(judge(rows)), line, text)
+        equal(brute(rows), sweep(rows), text)
+        equal(judge(rows, begin_rows(rows)), judge(rows), 'just enough order places')
+        if text:
+            equal(judge(rows, begin_rows(rows) - 1), ('refused', 11), 'one place too few')
+    for rows in MALFORMED:
+        equal(judge(rows, 0), ('refused', 10), 'malformed ' + bytes_of(rows).hex())
+    one = log_of(1, 7)
+    for data in (b'', b'\0', bytes_of(one)[:7], bytes_of(one) + b'\0', bytes(8 * 4097)):
+        equal(judge_bytes(data), ('refused', 9), f'{len(data)} bytes')
+    equal(judge_bytes(bytes_of(one)), ('order', []), 'row 0 alone as bytes')
+
+
+BENCH_SESSIONS = [
+    (b'1 7\nW 9\nS 0\nS 0\nR 1\n' + b'S 1\n' * 5,
+     'readers 1 start 7\n1 W 9\n2 w\n3 R 1\n4 r 1 9\norder 1 3\n'),
+    (b'', 'bad line 1\n'),
+    (b'\n', 'bad line 1\n'),
+    (b'1 7', 'bad line 1\n'),
+    (b'1 7\n', 'readers 1 start 7\norder\n'),
+    (b'01 4294967295\n', 'readers 1 start 4294967295\norder\n'),
+    (b'1 4294967296\n', 'bad line 1\n'),
+    (b'1  7\n', 'bad line 1\n'),
+    (b'1 7 \n', 'bad line 1\n'),
+    (b'1 +7\n', 'bad line 1\n'),
+    (b'1 7\r\n', 'bad line 1\n'),
+    (b'0 7\n', 'refused 1\n'),
+    (b'17 7\nX\n', 'refused 1\n'),
+    (b'4294967295 7\n', 'refused 1\n'),
+    (b'4294967296 7\n', 'bad line 1\n'),
+    (b'1 7\nS 1\nR 2\nW\nR 1\n', 'refused 8\nrefused 5\nbad line 4\n'),
+    (b'1 7\nS 1', 'bad line 2\n'),
+    (b'1 7\nW 1\nW 2\n', 'refused 6\nreaders 1 start 7\n1 W 1\norder\n'),
+    (b'1 ' + b'0' * 65532 + b'7\n', 'readers 1 start 7\norder\n'),
+    (b'1 ' + b'0' * 65533 + b'7\n', 'bad line 1\n'),
+    (b'0 ' + b'0' * 65533 + b'7\n', 'bad line 1\n'),
+    (b'1 7\nS 1\n' + b'S 0\n' * 16383, 'bad line 1\n'),
+]
+
+
+def test_bench():
+    """The bench's session and its bad lines."""
+    for data, print_ in BENCH_SESSIONS:
+        equal(bench(data), print_, f'bench of {data[:40]!r}')
+
+
+def test_judges():
+    """Brute force against the sweep on small logs of every sort."""
+    pick = random.Random(2).randrange
+    tally = {'order': 0, 'refused': 0}
+    for trial in range(9000):
+        n, readings = 1 + pick(4), 1 + pick(4)
+        sort = trial % 3
+        if sort == 0:
+            rows = random_log(pick, n, 1 + pick(13), readings)
+        else:
+            rows = register_log(pick, n, pick(readings), 1 + pick(13), readings, 1 + pick(12))
+        if sort == 2:
+            rows = damaged(pick, rows, readings)
+        name = bytes_of(rows).hex()
+        must(well_formed(rows), 'well-formed log ' + name)
+        answer = brute(rows)
+        equal(sweep(rows), answer, 'sweep of ' + name)
+        must(sort != 1 or answer[0] == 'order', 'order of the register\'s log ' + name)
+        tally[answer[0]] += 1
+    must(min(tally.values()) > 1000, 'both judgments are common')
+    return tally
+
+
+def check_table(register):
+    """“Cells to the writer have reading 0; in all other cells the announced fields are
+    always none”; “A ticket is 0 to 3n+2”; further cells are never touched."""
+    n = register.n
+    for place, word in enumerate(register.table[:n * n + n]):
+        cell = unpack_cell(word)
+        to_writer = place >= n and place % n == 0
+        must(cell.reading == 0 if to_writer else cell.announced == NO_STAMP, 'cell fields')
+        for pair in (cell.stamp, cell.announced):
+            must(pair == NO_STAMP or max(pair) <= 3 * n + 2, 'tickets of a cell')
+    must(set(register.table[n * n + n:]) == {-1}, 'further cells untouched')
+
+
+def test_register():
+    """Longer runs: the table's rules, untouched rows, and always an order."""
+    pick = random.Random(3).randrange
+    for trial in range(60):
+        register = fresh_register(1 + trial % MAX_READERS, 7, spare=2, rows=300)
+        for length in range(20, 281, 20):
+            run_register(pick, register, length, 1 + trial % 5, 1 + pick(60))
+            check_table(register)
+            must(set(register.log[length:]) == {-1}, 'further rows untouched')
+        equal(judge(register.log[:280])[0], 'order', 'log of the register')
+
+
+def selftest():
+    """All tests; the first mismatch ends it."""
+    test_words()
+    test_cell_sessions()
+    test_run_sessions()
+    test_rules()
+    test_register_questions()
+    test_judge_questions()
+    test_bench()
+    test_register()
+    tally = test_judges()
+    print(f"brute force and sweep agree: {tally['order']} orders, {tally['refused']} refusals")
+    print('selftest passed')
+
+
+# ---------------------------------------------------------------------------- Command line
+
+def main(arguments):
+    """See the head of this file."""
+    if arguments == ['bench']:
+        sys.stdout.write(bench(sys.stdin.buffer.read(MAX_INPUT + 1)))
+    elif arguments == ['verdict']:
+        print(verdict(judge_bytes(sys.stdin.buffer.read())))
+    elif arguments[:1] == ['verdict']:
+        for name in arguments[1:]:
+            with open(name, 'rb') as file:
+                print(verdict(judge_bytes(file.read())))
+    elif arguments == ['selftest']:
+        try:
+            selftest()
+        except Mismatch as mismatch:
+            sys.exit(f'mismatch: {mismatch}')
+    else:
+        sys.exit(__doc__)
+
+
+if __name__ == '__main__':
+    main(sys.argv[1:])

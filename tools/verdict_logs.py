@@ -1,0 +1,208 @@
+#!/usr/bin/env python3
+"""Logs for a judge, and what the outside model says of each.
+
+    verdict_logs.py OUTDIR
+
+Writes the same log files to OUTDIR at every run and prints, for the files in sorted
+order, one verdict line each as `model.py verdict` gives it. Small logs are judged twice,
+by the definition of an order and by the sweep. OUTDIR must hold no other .log file.
+"""
+
+import sys
+from pathlib import Path
+
+sys.dont_write_bytecode = True
+
+from model import (
+    MAX_ROWS, brute, bytes_of, damaged, equal, judge_bytes, log_of, must, pack_row, random_log,
+    register_log, rows_of, sweep, verdict)
+
+BRUTE_ROWS = 17  # logs of at most this many rows are judged by the definition too
+WORD = (1 << 64) - 1
+
+
+def dice(seed):
+    """The fixed generator (splitmix64): pick(k) gives a number from 0 to k-1."""
+    state = seed
+
+    def pick(k):
+        nonlocal state
+        state = state + 0x9E3779B97F4A7C15 & WORD
+        word = (state ^ state >> 30) * 0xBF58476D1CE4E5B9 & WORD
+        word = (word ^ word >> 27) * 0x94D049BB133111EB & WORD
+        return (word ^ word >> 31) % k
+
+    return pick
+
+
+# name, n, start reading, rows
+WRITTEN_LOGS = [
+    # Sessions of document 01.
+    ('session-refused', 2, 7, 'W 5, R 1, r 1 5, R 2, r 2 7'),
+    ('session-read-before-write', 2, 7, 'W 5, R 2, r 2 7, R 1, r 1 5'),
+    ('session-earliest-write', 2, 7, 'W 5, R 1, w, W 6, w, W 5, r 1 5, R 2, r 2 6'),
+    ('session-row-0-alone', 1, 7, ''),
+    ('session-bench', 1, 7, 'W 9, w, R 1, r 1 9'),
+
+    # One reading written more than once.
+    ('twice-earliest-taken', 1, 7, 'W 5, w, R 1, W 5, w, r 1 5'),
+    ('twice-floor-by-write', 1, 7, 'W 5, w, W 6, w, R 1, W 5, r 1 5'),
+    ('twice-floor-by-read', 2, 7, 'W 5, w, W 6, R 1, r 1 6, R 2, w, W 5, r 2 5'),
+    ('twice-floor-is-the-write', 1, 7, 'W 5, w, W 6, w, W 5, w, R 1, r 1 5'),
+    ('twice-second-too-late', 2, 7, 'W 5, w, W 6, w, R 1, r 1 5, W 5, w'),
+    ('twice-as-start-behind-start', 1, 5, 'R 1, W 5, w, r 1 5'),
+    ('twice-as-start-floor', 1, 5, 'W 6, w, R 1, W 5, r 1 5'),
+    ('twice-as-start-refused', 2, 5, 'W 6, R 1, r 1 6, R 2, r 2 5, w, W 5, w'),
+    ('twice-alternating', 3, 1,
+     'R 1, W 2, w, R 2, W 1, w, W 2, R 3, w, r 3 1, W 1, r 2 1, R 3, w, r 1 2, r 3 2'),
+    ('twice-latest-would-refuse', 3, 7,
+     'W 5, w, R 1, R 2, W 6, w, W 5, r 1 5, R 3, r 3 6, w, r 2 5'),
+    ('twice-same-start-latest-would-refuse', 2, 7, 'R 1, W 6, w, W 7, r 1 7, R 2, r 2 6'),
+
+    # Unended writes and reads.
+    ('unended-write-read', 1, 7, 'W 5, R 1, r 1 5'),
+    ('unended-write-not-read', 1, 7, 'W 5, R 1, r 1 7'),
+    ('unended-write-alone', 1, 7, 'W 5'),
+    ('unended-write-then-older', 3, 7, 'W 5, R 1, R 2, r 1 5, R 3, r 2 7, r 3 7'),
+    ('unended-write-then-older-same-reader', 1, 7, 'W 5, R 1, r 1 5, R 1, r 1 7'),
+    ('unended-write-with-equal-reading-ended', 2, 7, 'W 5, w, W 5, R 1, r 1 5, R 2, r 2 5'),
+    ('unended-reads-only', 3, 7, 'R 3, R 1, R 2'),
+    ('unended-reads-dropped', 3, 7, 'R 1, W 5, w, R 3, R 2, r 2 5'),
+    ('ended-writes-only', 1, 7, 'W 5, w, W 5, w, W 7, w'),
+
+    # Sixteen readers; the largest numbers.
+    ('sixteen-overlap', 16, 0,
+     'W 1, ' + ', '.join(f'R {i}' for i in range(16, 0, -1)) + ', w, W 2, '
+     + ', '.join(f'r {i} {i * 7 % 3}' for i in range(1, 17))),
+    ('sixteen-overlap-one-fails', 16, 0,
+     'W 1, w, ' + ', '.join(f'R {i * 5 % 17}' for i in range(1, 17)) + ', W 2, w, '
+     + ', '.join(f'r {i} {0 if i == 9 else 1 + i % 2}' for i in range(1, 17))),
+    ('largest-numbers', 16, 4294967295,
+     'R 16, W 4294967295, r 16 4294967295, w, R 16, W 2147483648, R 15, r 16 2147483648, w, '
+     'W 0, r 15 0'),
+
+    # Refusals.
+    ('fails-ended-first-begun-later', 2, 7, 'W 5, w, R 1, R 2, r 2 7, r 1 7'),
+    ('fails-neither-first', 3, 7, 'W 5, w, R 1, R 2, R 3, r 3 5, r 2 7, r 1 5'),
+    ('fails-three-crossed', 4, 7, 'R 4, W 5, w, R 3, R 2, R 1, r 1 7, r 2 7, r 4 7, r 3 7'),
+    ('fails-with-all-writes-kept', 2, 7, 'R 1, W 5, w, r 1 5, R 2, r 2 7'),
+    ('fails-before-the-write', 1, 7, 'R 1, r 1 5, W 5, w'),
+    ('fails-never-written', 2, 7, 'R 1, W 5, R 2, w, r 1 5, r 2 6'),
+    ('fails-by-chain-of-reads', 4, 7,
+     'W 5, R 4, R 1, r 1 5, R 2, r 2 5, R 3, r 3 7, r 4 7, w'),
+    ('fails-again-later', 2, 7, 'W 5, R 1, r 1 5, R 2, r 2 7, w, R 1, r 1 7, R 2, r 2 5'),
+]
+
+START, OPEN_WRITE, OPEN_READ = log_of(2, 7), log_of(2, 7, 'W 5'), log_of(2, 7, 'R 1')
+
+# name, rows
+MALFORMED_LOGS = [
+    ('row-0-kind-1', [pack_row(1, 0, 7)]),
+    ('row-0-kind-4', [pack_row(4, 2, 7)]),
+    ('row-0-no-readers', log_of(0, 7)),
+    ('row-0-readers-17', log_of(17, 7)),
+    ('row-0-zero-bits', [START[0] | 1 << 51]),
+    ('later-zero-bits', START + [pack_row(1, 0, 5) | 1 << 32]),
+    ('later-kind-0', START + [pack_row(0, 0, 0)]),
+    ('later-kind-5', START + START),
+    ('later-kind-6', START + [pack_row(6, 1, 0)]),
+    ('later-kind-15', START + [pack_row(15, 1, 0)]),
+    ('reading-in-write-end', OPEN_WRITE + [pack_row(2, 0, 5)]),
+    ('reading-in-read-begin', START + [pack_row(3, 1, 1 << 31)]),
+    ('processor-in-write-begin', START + [pack_row(1, 1, 5)]),
+    ('processor-in-write-end', OPEN_WRITE + [pack_row(3, 1, 0), pack_row(2, 1, 0)]),
+    ('read-begin-processor-0', START + [pack_row(3, 0, 0)]),
+    ('read-begin-processor-3', START + [pack_row(3, 3, 0)]),
+    ('read-end-processor-0', OPEN_WRITE + [pack_row(4, 0, 5)]),
+    ('read-end-processor-3', OPEN_READ + [pack_row(4, 3, 7)]),
+    ('write-end-first', log_of(2, 7, 'w')),
+    ('read-end-first', log_of(2, 7, 'R 1, r 2 7')),
+    ('write-begins-twice', log_of(2, 7, 'W 5, W 5')),
+    ('read-begins-twice', log_of(2, 7, 'R 1, R 2, R 1')),
+    ('write-ends-twice', log_of(2, 7, 'W 5, w, w')),
+    ('read-ends-twice', log_of(2, 7, 'R 1, r 1 7, r 1 7')),
+    ('behind-a-failing-read', log_of(2, 7, 'R 1, r 1 5, w')),
+]
+
+
+def long_logs():
+    """Logs at the greatest length. The register leaves the last of 4,096 rows free, since
+    every operation has two rows beside row 0; a begin is added there."""
+    full = register_log(dice(1), 16, 7, MAX_ROWS - 1, 6, 40) + [pack_row(3, 16, 0)]
+    late = list(full)
+    last = max(r for r, row in enumerate(full) if row >> 60 == 4)
+    late[last] = late[last] >> 32 << 32 | 7  # the start reading, overwritten long ago
+    yield 'rows-4096', bytes_of(full)
+    yield 'rows-4096-fails-late', bytes_of(late)
+    yield 'rows-4097', bytes_of(full + [pack_row(4, 16, 7)])
+
+
+def odd_lengths():
+    """Lengths that question 9 refuses."""
+    yield 'no-bytes', b''
+    yield 'bytes-7', bytes_of(START)[:7]
+    yield 'bytes-15', bytes_of(START + START)[:15]
+
+
+def register_logs():
+    """Logs of the register, each also with one result damaged."""
+    for n, length, readings, burst in ((1, 20, 3, 6), (1, 90, 2, 9), (2, 45, 2, 12),
+                                       (2, 120, 4, 5), (3, 60, 3, 15), (3, 150, 2, 8),
+                                       (5, 100, 3, 30), (16, 200, 5, 60)):
+        pick = dice(1000 * n + length)
+        rows = register_log(pick, n, pick(readings), length, readings, burst)
+        yield f'register-{n}-{length}', bytes_of(rows)
+        yield f'register-{n}-{length}-damaged', bytes_of(damaged(pick, rows, readings))
+
+
+def random_logs():
+    """Small logs with guessed results; every third is refused, the others have an order."""
+    pick = dice(2)
+    for k in range(27):
+        wanted = 'refused' if k % 3 == 0 else 'order'
+        rows = START
+        while sweep(rows)[0] != wanted or len(rows) < 8:
+            rows = random_log(pick, 2 + pick(3), 8 + pick(8), 2 + pick(2))
+        yield f'random-{k + 1}', bytes_of(rows)
+
+
+def all_logs():
+    """Every log with its name."""
+    for name, n, start, text in WRITTEN_LOGS:
+        yield name, bytes_of(log_of(n, start, text))
+    for name, rows in MALFORMED_LOGS:
+        yield 'malformed-' + name, bytes_of(rows)
+    yield from odd_lengths()
+    yield from long_logs()
+    yield from register_logs()
+    yield from random_logs()
+
+
+def expected(name, data):
+    """The model's verdict line."""
+    answer = judge_bytes(data)
+    must(('malformed' in name) == (answer == ('refused', 10)), name)
+    well_formed = answer[0] == 'order' or answer[1] == 12
+    if well_formed and len(data) <= 8 * BRUTE_ROWS:
+        equal(brute(rows_of(data)), answer, name)
+    return verdict(answer)
+
+
+def main(arguments):
+    """See the head of this file."""
+    if len(arguments) != 1:
+        sys.exit(__doc__)
+    directory = Path(arguments[0])
+    directory.mkdir(parents=True, exist_ok=True)
+    files = {f'{k:03}-{name}.log': data for k, (name, data) in enumerate(all_logs(), 1)}
+    lines = [expected(name, data) + '\n' for name, data in sorted(files.items())]
+    strangers = {path.name for path in directory.glob('*.log')} - set(files)
+    if strangers:
+        sys.exit(f'other logs in {directory}: {sorted(strangers)}')
+    for name, data in files.items():
+        (directory / name).write_bytes(data)
+    sys.stdout.write(''.join(lines))
+
+
+if __name__ == '__main__':
+    main(sys.argv[1:])
