@@ -7,7 +7,7 @@ use native.Mathlib.Numerals.{add-one}
 use lib.ListN.{length, drop, set, getD, length-append, length-drop}
 use native.Mathlib.Nat.{add-zero, add-assoc}
 use lib.Seq.{drop-cons, set-at, drop-drop, getD-drop}
-use Rattle.words.specs.Bits.{field}
+use Rattle.words.specs.Bits.{low, field}
 use Rattle.words.proofs.Laws.Bits.{split-field}
 use Rattle.logbytes.specs.Bytes.{wordAt, readRows, rowsOf, readInto, bytesOf}
 
@@ -71,7 +71,7 @@ joined w w8 w16 w24 w32 w40 w48 w56 a b c d e f g h e0 e1 e2 e3 e4 e5 e6 e7 = om
 word-bytes : (w : ℕ) (ws : List ℕ) → w < 2 ^ 64 → wordAt (bytesOf (w ∷ ws)) 0 ≡ w
 unfolding bytesOf
 word-bytes w ws h =
-    let low : w ≡ w / 2 ^ 8 * 2 ^ 8 + field 0 8 w = omega arith in
+    let low : w ≡ w / 2 ^ 8 * 2 ^ 8 + low 8 w = omega arith in
     let top : w / 2 ^ 56 ≡ field 56 8 w = omega arith in
     joined w _ _ _ _ _ _ _ _ _ _ _ _ _ _ _ low (split-field 8 8 w) (split-field 16 8 w) (split-field 24 8 w)
     (split-field 32 8 w) (split-field 40 8 w) (split-field 48 8 w) top

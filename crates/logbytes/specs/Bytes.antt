@@ -2,7 +2,7 @@
 use Prim.Native.Nat.{ℕ, zero, suc, _+_, _*_, _/_, _^_, min}
 use mathlib.Core.List.{List, [], _∷_, _++_}
 use lib.ListN.{length, getD, drop}
-use Rattle.words.specs.Bits.{field}
+use Rattle.words.specs.Bits.{low, field}
 
 -- the number in the four bytes, and the word in the eight, from place p on
 abbrev pub halfAt : List ℕ → ℕ → ℕ
@@ -28,5 +28,5 @@ readInto b rows = let k = min (length b / 8) (length rows) in readRows k b ++ dr
 unfoldable pub bytesOf : List ℕ → List ℕ
 bytesOf [] = []
 bytesOf (w ∷ ws) =
-    field 56 8 w ∷ field 48 8 w ∷ field 40 8 w ∷ field 32 8 w ∷ field 24 8 w ∷ field 16 8 w ∷ field 8 8 w ∷ field 0 8 w
+    field 56 8 w ∷ field 48 8 w ∷ field 40 8 w ∷ field 32 8 w ∷ field 24 8 w ∷ field 16 8 w ∷ field 8 8 w ∷ low 8 w
     ∷ bytesOf ws

@@ -7,5 +7,5 @@ use Rattle.sessions.specs.Session.{holds, all}
 use Rattle.sessions.specs.Table.{table}
 
 pub sessions : all table ≡ true
-unfolding holds Cell.packCell Cell.unpackCell Row.packRow Row.unpackRow
+unfolding holds Cell.packCell Cell.unpackCell Row.packRow
 sessions = refl

@@ -1,10 +1,14 @@
--- A field of a word: the bits from place `at` on, `width` of them.
+-- A field of a word: `width` bits from place `at` on.
 use Prim.Native.Nat.{ℕ, _*_, _/_, _%_, _^_}
 
--- what the field holds
+-- the lowest bits
+abbrev pub low : ℕ → ℕ → ℕ
+low width word = word % 2 ^ width
+
+-- what a field holds
 abbrev pub field : ℕ → ℕ → ℕ → ℕ
-field at width word = word / 2 ^ at % 2 ^ width
+field at width word = low width (word / 2 ^ at)
 
 -- what a field adds to its word. Of a number that does not fit the low bits are kept, so that no other field is touched.
 abbrev pub put : ℕ → ℕ → ℕ → ℕ
-put at width x = x % 2 ^ width * 2 ^ at
+put at width x = low width x * 2 ^ at

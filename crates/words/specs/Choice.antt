@@ -2,6 +2,6 @@
 use mathlib.Core.Bool.{Bool, true, false}
 
 -- a where the test holds, else b
-unfoldable pub pick : {A : Type 0} → Bool → A → A → A
+abbrev pub pick {ℓ} : {A : Type ℓ} → Bool → A → A → A
 pick true a b = a
 pick false a b = b

@@ -1,4 +1,5 @@
 pub mod Choice
+pub mod Update
 pub mod Bits
 pub mod Stamp
 pub mod Cell

@@ -4,7 +4,7 @@ use mathlib.Core.Path.{_≡_}
 use native.Mathlib.Nat.{mod-mod}
 use native.Mathlib.Omega.{arith}
 use Rattle.words.specs.declared.cell.Cell.{Cell}
-use Rattle.words.specs.Bits.{field, put}
+use Rattle.words.specs.Bits.{low, field}
 use Rattle.words.specs.Cell.{packCell, unpackCell, CellFits}
 use Rattle.words.proofs.Laws.Bits.{split-field}
 
@@ -29,7 +29,7 @@ joined : (w w8 w14 w20 w26 w32 sc sp ac ap : ℕ) → w ≡ w8 * 2 ^ 8 + 0
 joined w w8 w14 w20 w26 w32 sc sp ac ap h0 h1 h2 h3 h4 = omega arith
 
 -- where the zero bits are zero
-pub pack-unpack : (w : ℕ) → w < 2 ^ 64 → field 0 8 w ≡ 0 → packCell (unpackCell w) ≡ w
+pub pack-unpack : (w : ℕ) → w < 2 ^ 64 → low 8 w ≡ 0 → packCell (unpackCell w) ≡ w
 unfolding packCell unpackCell
 pack-unpack w h z =
     let top : field 32 32 w ≡ w / 2 ^ 32 = omega arith in

@@ -1,33 +1,46 @@
--- What a choice gives, and how to reason by its test.
+-- What a choice gives, how to reason by its test, and what tests say.
 use Prim.Native.Nat.{ℕ, _≤_, _<_}
-use mathlib.Core.Path.{_≡_, refl, subst, sym}
-use mathlib.Core.Bool.{Bool, true, false}
-use native.Mathlib.Decide.{decLt}
-use native.Mathlib.Omega.{arith}
-use lib.Dec.{ltb}
-use borrow.Author.Tests.{lt-ltb, le-ltb}
+use mathlib.Core.Path.{_≡_, refl}
+use mathlib.Core.Logic.{_≢_}
+use mathlib.Core.Bool.{Bool, true, false, not, _&&_}
+use lib.Dec.{T, eqb, leb, ltb, eqb-refl}
+use borrow.Author.Tests.{ltb-true, ltb-false, leb-true, leb-false, eqb-true, eqb-false}
 use Rattle.words.specs.Choice.{pick}
 
-module _ {A : Type 0} (t : Bool) (a b : A) where
-  pub pick-yes : t ≡ true → pick t a b ≡ a
-  unfolding pick
-  pick-yes e = rw e
+pub pick-yes : {A : Type 0} (t : Bool) (a b : A) → t ≡ true → pick t a b ≡ a
+pick-yes t a b e = rw e
 
-  pub pick-no : t ≡ false → pick t a b ≡ b
-  unfolding pick
-  pick-no e = rw e
+pub pick-no : {A : Type 0} (t : Bool) (a b : A) → t ≡ false → pick t a b ≡ b
+pick-no t a b e = rw e
 
-  -- what holds of both choices, each under its test, holds of the chosen one
-  pub pick-ind : (P : A → Type 0) → (t ≡ true → P a) → (t ≡ false → P b) → P (pick t a b)
-  pick-ind P y n = go t refl
-    where
-      go : (u : Bool) → t ≡ u → P (pick t a b)
-      go true e = rw (pick-yes e) (y e)
-      go false e = rw (pick-no e) (n e)
+-- what holds of both choices, each under its test, holds of the chosen one
+pub pick-ind : {A : Type 0} (P : A → Type 0) (t : Bool) (a b : A) → (t ≡ true → P a) → (t ≡ false → P b) → P (pick t a b)
+pick-ind P true a b f g = f refl
+pick-ind P false a b f g = g refl
+
+pub pick-T {ℓ κ} : {A : Type ℓ} (P : A → Type κ) (t : Bool) {a b : A} → (T t → P a) → (T (not t) → P b) → P (pick t a b)
+pick-T P true f g = f tt
+pick-T P false f g = g tt
 
 pub lt-ind : {A : Type 0} (P : A → Type 0) (m n : ℕ) (a b : A) → (m < n → P a) → (n ≤ m → P b) → P (pick (ltb m n) a b)
-lt-ind P m n a b y k =
-    elim (decLt m n) [
-      | yes h ↦ rw (pick-yes (ltb m n) a b (lt-ltb m n h)) (y h)
-      | no h ↦ let g : n ≤ m = omega arith in rw (pick-no (ltb m n) a b (le-ltb m n g)) (k g)
-    ]
+lt-ind P m n a b f g = pick-ind P (ltb m n) a b (λ e. f (ltb-true m n e)) (λ e. g (ltb-false m n e))
+
+-- a test that passes, as a type and as an equation
+pub eq→T : (m n : ℕ) → m ≡ n → T (eqb m n)
+eq→T m n e = rw e (eqb-refl n)
+
+pub and-T : (a b : Bool) → T a → T b → T (a && b)
+and-T true b x y = y
+
+pub T-left : (a b : Bool) → T (a && b) → T a
+T-left true b x = tt
+
+pub T-right : (a b : Bool) → T (a && b) → T b
+T-right true b x = x
+
+pub T→true : (b : Bool) → T b → b ≡ true
+T→true true t = refl
+
+pub not→false : (b : Bool) → (T b → ⊥) → b ≡ false
+not→false true f = absurd (f tt)
+not→false false f = refl

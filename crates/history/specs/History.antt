@@ -1,0 +1,58 @@
+-- The operations of a log. An operation goes by its begin row. The start counts as a write at row 0 that ends at once.
+use Prim.Native.Nat.{ℕ, suc, zero, _<_, _-_}
+use mathlib.Core.Path.{_≡_}
+use mathlib.Core.List.{List}
+use lib.Dec.{eqb}
+use lib.ListN.{length}
+use Rattle.history.specs.Search.{first}
+use Rattle.history.specs.Rows.{kindAt, processorAt, valueAt}
+use Rattle.history.specs.WellFormed.{openAt}
+
+pub record History : Type 0 where
+  -- the number of rows
+  pub len : ℕ
+  -- the kind of a row: 1 write begins, 2 write ends, 3 read begins, 4 read ends
+  pub kind : ℕ → ℕ
+  -- the value of a row
+  pub value : ℕ → ℕ
+  -- the end row of the operation begun at a row; len if it has none
+  pub end : ℕ → ℕ
+  -- the begin row of the operation ended at a row
+  pub begin : ℕ → ℕ
+
+unfoldable pub eventAt : List ℕ → ℕ → ℕ
+eventAt log zero = 1
+eventAt log (suc k) = kindAt log (suc k)
+
+-- the first row from k on, among n, of processor i; k + n if there is none
+abbrev pub nextOf : List ℕ → ℕ → ℕ → ℕ → ℕ
+nextOf log i k n = first (λ j. eqb (processorAt log j) i) k n
+
+-- an operation ends at its processor's next row
+unfoldable pub endAt : List ℕ → ℕ → ℕ
+endAt log zero = 0
+endAt log (suc k) = nextOf log (processorAt log (suc k)) (suc (suc k)) (length log - suc (suc k))
+
+abbrev pub historyOf : List ℕ → History
+historyOf log = record {
+  len = length log;
+  kind = eventAt log;
+  value = valueAt log;
+  end = endAt log;
+  begin = λ e. openAt log (processorAt log e) e;
+}
+
+-- a write, ended or not
+pub record Write (h : History) (w : ℕ) : Type 0 where
+  pub is : h .kind w ≡ 1
+  pub real : zero < w
+
+-- an ended read, begun before row m
+pub record Read (h : History) (m r : ℕ) : Type 0 where
+  pub is : h .kind r ≡ 3
+  pub ended : h .end r < h .len
+  pub under : r < m
+
+-- "Operation a precedes b if a's end row is before b's begin row."
+abbrev pub Precedes : History → ℕ → ℕ → Type 0
+Precedes h a b = h .end a < b

@@ -1,0 +1,10 @@
+pub mod Search
+pub mod Rows
+pub mod WellFormed
+pub mod History
+pub mod Linearization
+pub mod Earliest
+pub mod Instants
+pub mod Sweep
+pub mod Listing
+pub mod Swept
