@@ -1,0 +1,32 @@
+-- Document 01's numbers of the answers.
+use Prim.Native.Nat.{ℕ}
+use mathlib.Core.Bool.{Bool, true, false}
+use Rattle.protocol.specs.declared.Refusal.{Refusal}
+use Rattle.protocol.specs.declared.Refusal.the-variants.{Readers, Cells, Rows, Range, Processor, Busy, Full, Idle}
+use Rattle.protocol.specs.declared.Answer.{Answer}
+use Rattle.protocol.specs.declared.Answer.the-variants.{Accepted, Moved, Refused}
+
+-- "are there 1 to 16 readers (1)? At least n²+n cells (2)? Is the log 3 to 4,096 rows (3)?", "is the state in range (4 if not)",
+-- "Is the processor 0..n, for a read 1..n (5)? Begin: is it idle (6)? Are free rows at least open operations plus 2 (7)?
+-- Step: has it an open operation (8)?"
+abbrev pub refusalNumber : Refusal → ℕ
+refusalNumber Readers = 1
+refusalNumber Cells = 2
+refusalNumber Rows = 3
+refusalNumber Range = 4
+refusalNumber Processor = 5
+refusalNumber Busy = 6
+refusalNumber Full = 7
+refusalNumber Idle = 8
+
+-- "each call's refusal number, or that it has none": 0
+abbrev pub numberOf : Answer → ℕ
+numberOf Accepted = 0
+numberOf (Moved k) = 0
+numberOf (Refused r) = refusalNumber r
+
+-- "and each sub-step's number"; 0 where there is none
+abbrev pub subStepOf : Answer → ℕ
+subStepOf Accepted = 0
+subStepOf (Moved k) = k
+subStepOf (Refused r) = 0

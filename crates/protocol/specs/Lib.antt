@@ -1,0 +1,11 @@
+pub mod Counting
+pub mod Answers
+pub mod Table
+pub mod Tickets
+pub mod State
+pub mod SetUp
+pub mod Write
+pub mod Read
+pub mod Calls
+pub mod Reference
+pub mod Runs

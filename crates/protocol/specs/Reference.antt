@@ -1,0 +1,256 @@
+-- The reference model: document 01's book, "fed n, the start reading, the log's length and the calls". It tells the rules a second
+-- time, by the cells that each operation has read; with the calls' definitions it shares packing, places, calls and answers.
+use Prim.Native.Nat.{ℕ, zero, suc, _+_, _-_, _*_}
+use mathlib.Core.List.{List, [], _∷_, _++_}
+use mathlib.Core.Bool.{Bool, true, false, not, _&&_, _||_}
+use lib.ListN.{length, getD, replicate}
+use lib.Dec.{ltb, leb, eqb}
+use Rattle.words.specs.declared.stamp.Stamp.{Stamp}
+use Rattle.words.specs.declared.cell.Cell.{Cell}
+use Rattle.words.specs.Choice.{pick}
+use Rattle.words.specs.Update.{upd}
+use Rattle.words.specs.Stamp.{none}
+use Rattle.words.specs.Cell.{packCell}
+use Rattle.words.specs.Row.{packRow}
+use Rattle.protocol.specs.declared.Answer.{Answer}
+use Rattle.protocol.specs.declared.Answer.the-variants.{Accepted, Moved, Refused}
+use Rattle.protocol.specs.declared.Refusal.{Refusal}
+use Rattle.protocol.specs.declared.Refusal.the-variants.{Processor, Busy, Full, Idle}
+use Rattle.protocol.specs.Counting.{one, count}
+use Rattle.protocol.specs.Table.{view, store, other}
+
+-- "each processor idle, or open with a write's reading, its words moved and the cells it read"
+pub data Operation : Type 0 where
+  idle : Operation
+  open-with : (v m : ℕ) (cells : List Cell) → Operation
+
+-- "a fresh table; a log with row 0; the writer's stamp, at first (0,1); each reader's stamp, at first none"
+pub record Book : Type 0 where
+  pub table : List ℕ
+  pub rows : List ℕ
+  pub stamp : ℕ → Stamp
+  pub op : ℕ → Operation
+
+abbrev pub isOpen : Operation → Bool
+isOpen idle = false
+isOpen (open-with v m cells) = true
+
+-- t is in the list
+unfoldable pub isIn : ℕ → List ℕ → Bool
+isIn t [] = false
+isIn t (x ∷ b) = eqb t x || isIn t b
+
+-- the first of t, t + 1, .. that is not in it, of k + 1 of them
+unfoldable pub firstFree : List ℕ → ℕ → ℕ → ℕ
+firstFree b t zero = t
+firstFree b t (suc k) = pick (isIn t b) (firstFree b (suc t) k) t
+
+-- the ticket rule: "the smallest that is not barred"
+unfoldable pub newTicket : List ℕ → ℕ
+newTicket b = firstFree b 0 (length b)
+
+-- "Barred are the prev, announced cur and announced prev of each, and the writer's own cur and prev. None bars nothing."
+-- A none, 63, in the list bars nothing: it is no ticket.
+unfoldable pub barred : Stamp → List Cell → List ℕ
+barred s [] = s .cur ∷ s .prev ∷ []
+barred s (c ∷ cs) = c .stamp .prev ∷ c .announced .cur ∷ c .announced .prev ∷ barred s cs
+
+-- what an operation's sub-step leaves: the operation, the processor's stamp, the table, and the value of the end row
+pub record Turn : Type 0 where
+  pub op : Operation
+  pub stamp : Stamp
+  pub table : List ℕ
+  pub value : ℕ
+
+-- "Sub-steps 1..n read the readers' cells to the writer", "Sub-steps n+1..2n store v with the new stamp to readers 1..n",
+-- "New stamp: (that ticket, old cur)", "A write ends at its sub-step 2n."
+unfoldable pub writeTurn : ℕ → List ℕ → Stamp → ℕ → ℕ → List Cell → Turn
+writeTurn n t s v m cells =
+    let new : Stamp = record { cur = newTicket (barred s cells); prev = s .cur } in
+    let t′ = store n t 0 (m - n + 1) (record { value = v; stamp = new; announced = none }) in
+    pick (ltb m n)
+    (record { op = open-with v (m + 1) (cells ++ (view n t (m + 1) 0 ∷ [])); stamp = s; table = t; value = 0 })
+    (pick (ltb (m + 1) (2 * n)) (record { op = open-with v (m + 1) cells; stamp = s; table = t′; value = 0 })
+    (record { op = idle; stamp = new; table = t′; value = 0 }))
+
+-- a cell that shows nothing
+abbrev pub void : Cell
+void = record { value = 0; stamp = none; announced = none }
+
+-- the k-th cell that a read has read; void where there is none
+abbrev pub nth : List Cell → ℕ → Cell
+nth cells k = getD cells k void
+
+-- equal stamps
+abbrev pub alike : Cell → Cell → Bool
+alike x y = eqb (x .stamp .cur) (y .stamp .cur) && eqb (x .stamp .prev) (y .stamp .prev)
+
+-- the first of r cells from place k on whose prev is t; else d
+unfoldable pub firstWith : List Cell → ℕ → Cell → ℕ → ℕ → Cell
+firstWith cells t d k zero = d
+firstWith cells t d k (suc r) =
+    pick (eqb (nth cells k .stamp .prev) t) (nth cells k) (firstWith cells t d (suc k) r)
+
+-- The cells of an attempt stand from place a on: the first look, the second, the other readers' n - 1, the third.
+-- "All three looks have equal stamps"
+abbrev pub agree : ℕ → List Cell → ℕ → Bool
+agree n cells a = alike (nth cells a) (nth cells (a + 1)) && alike (nth cells a) (nth cells (a + (n + 1)))
+
+-- a read's value and stamp
+pub record Result : Type 0 where
+  pub value : ℕ
+  pub stamp : Stamp
+
+-- "result is the first of the other readers' cells whose prev equals the third look's cur, with its reading and stamp; if there is
+-- none, the third look's"; "On the second, the result is the second attempt's first look's reading, with stamp none."
+unfoldable pub resultOf : ℕ → List Cell → ℕ → Result
+resultOf n cells a =
+    let third = nth cells (a + (n + 1)) in
+    let found = firstWith cells (third .stamp .cur) third (a + 2) (n - 1) in
+    pick (agree n cells a) (record { value = found .value; stamp = found .stamp })
+    (record { value = nth cells a .value; stamp = none })
+
+-- the first attempt is over, and its looks were not equal
+abbrev pub failed : ℕ → ℕ → List Cell → Bool
+failed n m cells = leb (n + 3) m && not (agree n cells 0)
+
+-- a sub-step of reader p that reads the cell from q, or stores one to q
+abbrev pub readsFrom : ℕ → ℕ → List ℕ → Stamp → ℕ → List Cell → ℕ → Turn
+readsFrom n p t s m cells q =
+    record { op = open-with 0 (m + 1) (cells ++ (view n t q p ∷ [])); stamp = s; table = t; value = 0 }
+
+abbrev pub storesTo : ℕ → ℕ → List ℕ → Stamp → ℕ → List Cell → ℕ → Cell → Turn
+storesTo n p t s m cells q c = record { op = open-with 0 (m + 1) cells; stamp = s; table = store n t p q c; value = 0 }
+
+-- sub-step l, from 0, of the attempt whose cells stand from place a on: "read the writer's cell (first look); store that stamp as
+-- announced in the own cell to the writer, beside the reader's own stamp; read the writer's cell (second look); read the other
+-- readers' cells to i, in rising order; read the writer's cell (third look)"
+unfoldable pub attemptTurn : ℕ → ℕ → List ℕ → Stamp → ℕ → List Cell → ℕ → ℕ → Turn
+attemptTurn n p t s m cells l a =
+    pick (eqb l 0) (readsFrom n p t s m cells 0)
+    (pick (eqb l 1) (storesTo n p t s m cells 0 (record { value = 0; stamp = s; announced = nth cells a .stamp }))
+    (pick (eqb l 2) (readsFrom n p t s m cells 0)
+    (pick (ltb l (n + 2)) (readsFrom n p t s m cells (other p (l - 3))) (readsFrom n p t s m cells 0))))
+
+-- the cell that shows a result to another reader: "the result (for stamp none, reading 0)"
+abbrev pub shown : Result → Cell
+shown x = record {
+  value = pick (eqb (x .stamp .cur) 63 && eqb (x .stamp .prev) 63) 0 (x .value);
+  stamp = x .stamp;
+  announced = none;
+}
+
+-- store k, from 0, of the result: to the other readers in rising order, "and last of all to the writer reading 0, the result's
+-- stamp, announced none. The read ends there."
+unfoldable pub resultTurn : ℕ → ℕ → List ℕ → Stamp → ℕ → List Cell → ℕ → Result → Turn
+resultTurn n p t s m cells k x =
+    pick (ltb (k + 1) n) (storesTo n p t s m cells (other p k) (shown x))
+    (record {
+      op = idle;
+      stamp = x .stamp;
+      table = store n t p 0 (record { value = 0; stamp = x .stamp; announced = none });
+      value = x .value;
+    })
+
+-- "One attempt has n+3 sub-steps", "Otherwise, on the first attempt, a second attempt", "Then n sub-steps store"
+unfoldable pub readTurn : ℕ → ℕ → List ℕ → Stamp → ℕ → List Cell → Turn
+readTurn n p t s m cells =
+    let a = pick (failed n m cells) (n + 2) 0 in
+    let l = m - pick (failed n m cells) (n + 3) 0 in
+    pick (ltb l (n + 3)) (attemptTurn n p t s m cells l a) (resultTurn n p t s m cells (l - (n + 3)) (resultOf n cells a))
+
+-- a call's answer, and the book behind it
+pub record Told : Type 0 where
+  pub answer : Answer
+  pub book : Book
+
+abbrev pub openCount : ℕ → Book → ℕ
+openCount n b = one (isOpen (b .op 0)) + count n (λ i. isOpen (b .op (suc i)))
+
+-- "A refused call changes nothing."
+abbrev pub declined : Refusal → Book → Told
+declined r b = record { answer = Refused r; book = b }
+
+-- "A begin opens its processor with no word moved and adds its row." Of len rows, those free are len less the book's.
+unfoldable pub begins : ℕ → ℕ → Book → ℕ → ℕ → ℕ → Told
+begins n len b p kind v =
+    pick (isOpen (b .op p)) (declined Busy b)
+    (pick (leb (length (b .rows) + openCount n b + 2) len)
+    (record {
+      answer = Accepted;
+      book = record {
+        table = b .table;
+        rows = b .rows ++ (packRow (record { kind = kind; processor = p; value = v }) ∷ []);
+        stamp = b .stamp;
+        op = upd (b .op) p (open-with v 0 []);
+      };
+    })
+    (declined Full b))
+
+-- "The end row is added, a read's with its result by the rules; the write's or result's stamp becomes the processor's own; the
+-- processor is idle."
+abbrev pub entered : Book → ℕ → ℕ → Turn → Book
+entered b p kind x = record {
+  table = x .table;
+  rows = pick (isOpen (x .op)) (b .rows) (b .rows ++ (packRow (record { kind = kind; processor = p; value = x .value }) ∷ []));
+  stamp = upd (b .stamp) p (x .stamp);
+  op = upd (b .op) p (x .op);
+}
+
+-- "A sub-step moves that operation's next word in the book's table, by the rules above. Its number is the words moved since the
+-- begin, this one included."
+abbrev pub movesWrite : ℕ → Book → Operation → Told
+movesWrite n b idle = declined Idle b
+movesWrite n b (open-with v m cells) =
+    record { answer = Moved (m + 1); book = entered b 0 2 (writeTurn n (b .table) (b .stamp 0) v m cells) }
+
+abbrev pub movesRead : ℕ → Book → ℕ → Operation → Told
+movesRead n b p idle = declined Idle b
+movesRead n b p (open-with v m cells) =
+    record { answer = Moved (m + 1); book = entered b p 4 (readTurn n p (b .table) (b .stamp p) m cells) }
+
+-- "A list has any number of begins of a write, begins of a read and sub-steps, in any order, with any reading and any processor
+-- number."
+pub data Call : Type 0 where
+  write : ℕ → Call
+  read : ℕ → Call
+  step : ℕ → Call
+
+-- "Questions 5 to 8 are asked of the book; in a list question 4 refuses nothing."
+unfoldable pub told : ℕ → ℕ → Book → Call → Told
+told n len b (write v) = begins n len b 0 1 v
+told n len b (read p) = pick (leb 1 p && leb p n) (begins n len b p 3 0) (declined Processor b)
+told n len b (step p) =
+    pick (leb p n) (pick (eqb p 0) (movesWrite n b (b .op 0)) (movesRead n b p (b .op p))) (declined Processor b)
+
+-- "Fresh: cells from the writer hold the start reading and stamp (0,1). All others hold reading 0 and stamp none. Announced fields
+-- are 63 everywhere."
+abbrev pub startCell : ℕ → Cell
+startCell v = record { value = v; stamp = record { cur = 0; prev = 1 }; announced = none }
+
+unfoldable pub freshTable : ℕ → ℕ → List ℕ
+freshTable n v = replicate n (packCell (startCell v)) ++ replicate (n * n) (packCell void)
+
+abbrev pub freshStamp : ℕ → Stamp
+freshStamp zero = record { cur = 0; prev = 1 }
+freshStamp (suc i) = none
+
+abbrev pub freshBook : ℕ → ℕ → Book
+freshBook n v = record {
+  table = freshTable n v;
+  rows = packRow (record { kind = 5; processor = n; value = v }) ∷ [];
+  stamp = freshStamp;
+  op = λ _. idle;
+}
+
+-- a list of calls: the answers, and the book at its end
+pub record Kept : Type 0 where
+  pub answers : List Answer
+  pub book : Book
+
+unfoldable pub kept : ℕ → ℕ → Book → List Call → Kept
+kept n len b [] = record { answers = []; book = b }
+kept n len b (c ∷ cs) =
+    let o = told n len b c in
+    let r = kept n len (o .book) cs in
+    record { answers = o .answer ∷ r .answers; book = r .book }

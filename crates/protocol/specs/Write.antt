@@ -1,0 +1,59 @@
+-- A sub-step of a write: "A write of v: 2n sub-steps".
+use Prim.Native.Nat.{ℕ, _+_, _-_, _*_}
+use mathlib.Core.List.{List}
+use mathlib.Core.Bool.{true, false}
+use lib.Dec.{ltb, eqb}
+use Rattle.words.specs.Choice.{pick}
+use Rattle.protocol.specs.declared.Writer.{Writer}
+use Rattle.protocol.specs.Table.{view, store, plain}
+use Rattle.protocol.specs.Tickets.{withCell, smallestOut}
+use Rattle.protocol.specs.State.{excludedBy}
+
+pub record WriteStep : Type 0 where
+  pub writer : Writer
+  pub table : List ℕ
+
+-- "Sub-steps 1..n read the readers' cells to the writer, readers 1..n."
+abbrev pub writerReads : ℕ → Writer → List ℕ → Writer
+writerReads n w t = record {
+  active = true;
+  moved = w .moved + 1;
+  value = w .value;
+  excluded = withCell (w .excluded) (view n t (w .moved + 1) 0);
+  ticket = w .ticket;
+  stamp = w .stamp;
+}
+
+-- "The new ticket, taken at sub-step n+1 before its store, is the smallest that is not barred."
+unfoldable pub ticketOf : ℕ → Writer → ℕ
+ticketOf n w = pick (eqb (w .moved) n) (smallestOut 64 (excludedBy w)) (w .ticket)
+
+abbrev pub writerStores : ℕ → Writer → Writer
+writerStores n w = record {
+  active = true;
+  moved = w .moved + 1;
+  value = w .value;
+  excluded = w .excluded;
+  ticket = ticketOf n w;
+  stamp = w .stamp;
+}
+
+-- "New stamp: (that ticket, old cur)."
+abbrev pub writerEnds : ℕ → Writer → Writer
+writerEnds n w = record {
+  active = false;
+  moved = w .moved + 1;
+  value = w .value;
+  excluded = w .excluded;
+  ticket = ticketOf n w;
+  stamp = record { cur = ticketOf n w; prev = w .stamp .cur };
+}
+
+-- "Sub-steps n+1..2n store v with the new stamp to readers 1..n."
+unfoldable pub writeStep : ℕ → Writer → List ℕ → WriteStep
+writeStep n w t =
+    pick (ltb (w .moved) n) (record { writer = writerReads n w t; table = t })
+    (record {
+      writer = pick (ltb (w .moved + 1) (2 * n)) (writerStores n w) (writerEnds n w);
+      table = store n t 0 (w .moved - n + 1) (plain (w .value) (record { cur = ticketOf n w; prev = w .stamp .cur }));
+    })
