@@ -36,3 +36,8 @@ pack-unpack w h z =
     let low : w ≡ w / 2 ^ 8 * 2 ^ 8 + 0 = omega arith in
     rw (mod-mod (w / 2 ^ 32), mod-mod (w / 2 ^ 26), mod-mod (w / 2 ^ 20), mod-mod (w / 2 ^ 14), mod-mod (w / 2 ^ 8), top)
     (joined w _ _ _ _ _ _ _ _ _ low (split-field 8 6 w) (split-field 14 6 w) (split-field 20 6 w) (split-field 26 6 w))
+
+-- of a cell whose fields may not fit, the packed cur's low bits
+pub packed-cur : (c : Cell) → unpackCell (packCell c) .stamp .cur ≡ low 6 (c .stamp .cur)
+unfolding packCell unpackCell
+packed-cur c = omega arith

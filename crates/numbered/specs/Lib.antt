@@ -1,0 +1,1 @@
+-- The numbered register has no specification of its own: see proofs/.

@@ -1,0 +1,133 @@
+-- The writer's record is the digest of the cells that the book has of its write; each turn keeps it so.
+use Prim.Native.Nat.{ℕ, _+_, _-_, _*_, _≤_, _<_}
+use mathlib.Core.Path.{_≡_, refl, sym, subst, ap, _∙_}
+use mathlib.Core.List.{List, [], _∷_, _++_}
+use mathlib.Core.Bool.{true, false}
+use native.Mathlib.Omega.{arith}
+use lib.ListN.{length, length-set, length-append}
+use lib.Dec.{eqb}
+use lib.Count.{ones}
+use borrow.Author.Tests.{eq-eqb}
+use Rattle.words.specs.declared.stamp.Stamp.{Stamp}
+use Rattle.words.specs.declared.cell.Cell.{Cell}
+use Rattle.words.specs.Choice.{pick}
+use Rattle.words.specs.Index.{Pair}
+use Rattle.words.proofs.Laws.Choice.{pick-yes, lt-two, eq-ind}
+use Rattle.protocol.specs.declared.Writer.{Writer}
+use Rattle.protocol.specs.Table.{view, store, plain}
+use Rattle.protocol.specs.Tickets.{withTicket, smallestOut}
+use Rattle.protocol.specs.State.{excludedBy}
+use Rattle.protocol.specs.InRange.{WriterInRange}
+use Rattle.protocol.specs.Write.{WriteStep, writerReads, ticketOf, writerStores, writerEnds, writeStep}
+use Rattle.protocol.specs.Reference.{Operation, idle, open-with, Turn, newTicket, barred, writeTurn}
+use Rattle.protocol.proofs.Table.{view-front, store-front}
+use Rattle.protocol.proofs.Smallest.{bars, bars-more, New, new-ticket}
+
+pub record WRel (n : ℕ) (w : Writer) (st : Stamp) (v m : ℕ) (cells : List Cell) : Type 0 where
+  pub active-is : w .active ≡ true
+  pub moved-is : w .moved ≡ m
+  pub value-is : w .value ≡ v
+  pub length-is : m ≤ n → length cells ≡ m
+  pub excluded-is : m ≤ n → w .excluded ≡ bars 0 cells
+  pub ticket-is : n < m → w .ticket ≡ newTicket (barred st cells)
+
+abbrev pub WriterRel : ℕ → Writer → Stamp → Operation → Type 0
+WriterRel n w st idle = w .active ≡ false
+WriterRel n w st (open-with v m cells) = WRel n w st v m cells
+
+pub record WTurnRel (n : ℕ) (X : List ℕ) (q : WriteStep) (x : Turn) : Type 0 where
+  pub table-is : q .table ≡ x .table ++ X
+  pub size-is : length (x .table) ≡ n * n + n
+  pub stamp-is : q .writer .stamp ≡ x .stamp
+  pub op : WriterRel n (q .writer) (x .stamp) (x .op)
+  pub value-is : x .value ≡ 0
+
+module _ (n : ℕ) (nl : 1 ≤ n) (nh : n ≤ 16) (T X : List ℕ) (size : length T ≡ n * n + n) (w : Writer) (st : Stamp) (v : ℕ)
+    (cells : List Cell) (R : WRel n w st v (w .moved) cells) (stamp-is : w .stamp ≡ st) (ok : WriterInRange n w) where
+  abbrev m : ℕ
+  m = w .moved
+
+  -- the new ticket, when it is taken
+  taken : m ≡ n → New (barred st cells) (smallestOut 64 (excludedBy w))
+  taken e =
+      let h = ok .few (R .active-is) (omega arith) in
+      let q : excludedBy w ≡ withTicket (withTicket (bars 0 cells) (st .cur)) (st .prev) = rw (R .excluded-is (omega arith), stamp-is) in
+      rw q
+      (new-ticket st cells (omega (arith, R .length-is (omega arith))) (omega (arith, ap ones q, R .length-is (omega arith))))
+
+  ticket : n ≤ m → ticketOf n w ≡ newTicket (barred st cells)
+  unfolding ticketOf
+  ticket h = eq-ind (λ x. x ≡ newTicket (barred st cells)) (w .moved) n _ _ (λ e. taken e .is-new) (λ e. R .ticket-is (omega arith))
+
+  reads : m < n
+      → WTurnRel n X (record { writer = writerReads n w (T ++ X); table = T ++ X })
+      (record { op = open-with v (m + 1) (cells ++ (view n T (m + 1) 0 ∷ [])); stamp = st; table = T; value = 0 })
+  reads h = record {
+    table-is = refl;
+    size-is = size;
+    stamp-is = stamp-is;
+    value-is = refl;
+    op = record {
+      active-is = refl;
+      moved-is = refl;
+      value-is = R .value-is;
+      length-is = λ _. simp length-append (omega (arith, R .length-is (omega arith)));
+      excluded-is = λ _.
+          rw (view-front n T X size (m + 1) 0 (omega arith), R .excluded-is (omega arith)) (sym (bars-more 0 cells (view n T (m + 1) 0)));
+      ticket-is = λ g. absurd (omega arith);
+    };
+  }
+
+  to-reader : n ≤ m → Pair n 0 (m - n + 1)
+  to-reader h = record { from = omega arith; dest = omega (arith, ok .moved-low (R .active-is)); apart = omega arith }
+
+  table : (h : n ≤ m)
+      → store n (T ++ X) 0 (m - n + 1) (plain (w .value) (record { cur = ticketOf n w; prev = w .stamp .cur }))
+      ≡ store n T 0 (m - n + 1) (plain v (record { cur = newTicket (barred st cells); prev = st .cur })) ++ X
+  table h = rw (ticket h, R .value-is, stamp-is) (store-front n T X size 0 (m - n + 1) (to-reader h) _)
+
+  turn : WTurnRel n X (writeStep n w (T ++ X)) (writeTurn n T st v m cells)
+  unfolding writeStep writeTurn
+  turn =
+      lt-two (WTurnRel n X) m n _ _ _ _ reads λ h.
+      lt-two
+      (λ (z : Writer) (x : Turn). WTurnRel n X (record { writer = z; table = store n (T ++ X) 0 (m - n + 1) (plain (w .value) (record { cur = ticketOf n w; prev = w .stamp .cur })) }) x)
+      (m + 1) (2 * n) _ _ _ _
+      (λ g. record {
+        table-is = table h;
+        size-is = simp length-set size;
+        stamp-is = stamp-is;
+        value-is = refl;
+        op = record {
+          active-is = refl;
+          moved-is = refl;
+          value-is = R .value-is;
+          length-is = λ q. absurd (omega arith);
+          excluded-is = λ q. absurd (omega arith);
+          ticket-is = λ _. ticket h;
+        };
+      })
+      (λ g. record {
+        table-is = table h;
+        size-is = simp length-set size;
+        stamp-is = λ i. record { cur = ticket h i; prev = stamp-is i .cur };
+        value-is = refl;
+        op = refl;
+      })
+
+module _ (n : ℕ) (nl : 1 ≤ n) (nh : n ≤ 16) (T X : List ℕ) (size : length T ≡ n * n + n) (w : Writer) (st : Stamp) (v m : ℕ)
+    (cells : List Cell) (R : WRel n w st v m cells) (stamp-is : w .stamp ≡ st) (ok : WriterInRange n w) where
+  same-moved : WRel n w st v (w .moved) cells
+  same-moved = subst (λ (k : ℕ). WRel n w st v k cells) (sym (R .moved-is)) R
+
+  pub turn-w-rel : WTurnRel n X (writeStep n w (T ++ X)) (writeTurn n T st v m cells)
+  turn-w-rel =
+      subst (λ (k : ℕ). WTurnRel n X (writeStep n w (T ++ X)) (writeTurn n T st v k cells)) (R .moved-is)
+      (turn n nl nh T X size w st v cells same-moved stamp-is ok)
+
+  -- A new ticket is not barred, and at most 3n + 2.
+  pub taken-is : m ≡ n → New (barred st cells) (ticketOf n w)
+  unfolding ticketOf
+  taken-is e =
+      rw (pick-yes (eqb (w .moved) n) (smallestOut 64 (excludedBy w)) (w .ticket) (eq-eqb (w .moved) n (R .moved-is ∙ e)))
+      (taken n nl nh T X size w st v cells same-moved stamp-is ok (R .moved-is ∙ e))
