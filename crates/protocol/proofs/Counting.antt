@@ -61,3 +61,8 @@ count-none f = refl
 pub one-low : (b : Bool) → one b ≤ 1
 one-low true = omega arith
 one-low false = omega arith
+
+pub count-low : (k : ℕ) (f : ℕ → Bool) → count k f ≤ k
+unfolding count
+count-low zero f = omega arith
+count-low (suc k) f = omega (arith, count-low k f, one-low (f k))

@@ -1,0 +1,15 @@
+use borrow.Author.Tests.{eq-eqb, ne-eqb}
+use Rattle.history.specs.Rows.{begins}
+use Rattle.judge.proofs.row.is_begin.Statement.{statement}
+use Rattle.judge.proofs.row.is_begin.Tie as tie
+
+returns : tie.Need-returns
+unfolding begins
+returns c = rw (eq-eqb _ _ (c .if1 .taken))
+
+returns-2 : tie.Need-returns-2
+unfolding begins
+returns-2 c = rw (ne-eqb _ _ (c .if1 .left))
+
+pub is-begin-spec : {M : Type 1} → statement M
+is-begin-spec = tie.close (tie.spec returns returns-2)

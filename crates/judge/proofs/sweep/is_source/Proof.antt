@@ -1,0 +1,17 @@
+use native.Mathlib.Omega.{arith}
+use borrow.Author.Needs.{needs}
+use Rattle.history.proofs.Source.{good-start, good-write, good-other}
+use Rattle.judge.proofs.sweep.is_source.Statement.{statement}
+use Rattle.judge.proofs.sweep.is_source.Tie as tie
+
+returns : tie.Need-returns
+returns c = good-start _ _ _ (omega arith)
+
+returns-2 : tie.Need-returns-2
+returns-2 c = good-write _ _ _ (omega arith) (omega arith)
+
+returns-3 : tie.Need-returns-3
+returns-3 c = good-other _ _ _ (omega arith) (omega arith)
+
+pub is-source-spec : {M : Type 1} → statement M
+is-source-spec = tie.close (tie.spec (λ c. search needs) (λ c. search needs) returns returns-2 returns-3)

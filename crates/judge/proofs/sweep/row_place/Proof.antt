@@ -1,0 +1,21 @@
+use borrow.Author.Needs.{needs}
+use borrow.Author.Tests.{ne-eqb}
+use Rattle.judge.specs.Sweeping.{placeRow}
+use Rattle.judge.proofs.sweep.row_place.Statement.{statement}
+use Rattle.judge.proofs.sweep.row_place.Tie as tie
+
+returns : tie.Need-returns
+unfolding placeRow
+returns c = rw (c .if1 .taken)
+
+returns-2 : tie.Need-returns-2
+unfolding placeRow
+returns-2 c = rw (c .before .if2 .taken) (c .seek .ensures)
+
+returns-3 : tie.Need-returns-3
+unfolding placeRow
+returns-3 c = rw (ne-eqb _ _ (c .before .if1 .left), ne-eqb _ _ (c .if2 .left))
+
+pub row-place-spec : {M : Type 1} → statement M
+row-place-spec =
+    tie.close (tie.spec (λ c. search needs) (λ c. search needs) returns (λ c κs. search needs) returns-2 returns-3)

@@ -1,0 +1,16 @@
+use borrow.Author.Needs.{needs}
+use mathlib.Core.Path.{sym, _∙_}
+use Rattle.judge.specs.Answer.{countAfter}
+use Rattle.judge.proofs.verdict.count_after.Statement.{statement}
+use Rattle.judge.proofs.verdict.count_after.Tie as tie
+
+returns : tie.Need-returns
+unfolding countAfter
+returns c = rw (sym (c .before .is-begin .ensures) ∙ c .if1 .taken)
+
+returns-2 : tie.Need-returns-2
+unfolding countAfter
+returns-2 c = rw (sym (c .before .is-begin .ensures) ∙ c .if1 .left)
+
+pub count-after-spec : {M : Type 1} → statement M
+count-after-spec = tie.close (tie.spec (λ c κs. search needs) (λ c. search needs) returns returns-2)

@@ -1,0 +1,97 @@
+// The judge of rows.
+use super::formed::well_formed;
+use super::order::decode_all;
+use super::order::put_keys;
+use super::row::is_begin;
+use super::sweep::first_missing;
+ghost use mathlib.Core.Path.{_≡_};
+ghost use Prim.Native.Nat.{_<_, _≤_, _^_};
+ghost use lib.ListN.{length};
+ghost use Rattle.judge.specs.Answer.{rightLength, countAfter, beginsTo, answer, answerOf, orderOf, numberOf};
+ghost use Rattle.judge.specs.Meaning.{Means};
+
+// What the judge says of a log.
+pub enum Verdict {
+    // It has an order, of so many operations.
+    Accepted(usize),
+    // It has no rows, or more than 4,096.
+    WrongLength,
+    // Its rows are not well formed.
+    Malformed,
+    // There are fewer places than begin rows.
+    NoRoom,
+    // It has no order: the begin row of the first read with which it has none.
+    NoOrder(usize),
+}
+
+// Question 9.
+fn right_length(n: usize) -> bool
+    ensures { λ r. ⌜ r ≡ rightLength n ⌝ }
+{
+    (1 <= n) & (n <= 4096)
+}
+
+// One more, if the row is a begin.
+fn count_after(row: u64, n: usize) -> usize
+    requires { ⌜ n < 2 ^ 63 ⌝ }
+    ensures { λ r. ⌜ r ≡ countAfter row n ⌝ }
+{
+    if is_begin(row) {
+        return n + 1;
+    }
+    n
+}
+
+// The number of begin rows.
+fn count_begins(rows: &[u64]) -> usize
+    requires { ⌜ 1 ≤ length (now rows) ⌝ }
+    ensures { λ r. ⌜ r ≡ beginsTo (now (rows .entry)) (length (now (rows .entry))) ⌝ }
+{
+    let mut n = 0;
+    let mut k = 1;
+    while k < rows.len() {
+        n = count_after(rows[k], n);
+        k += 1;
+    }
+    n
+}
+
+// The verdict, and the order in the lent places.
+pub fn judge(rows: &[u64], order: &mut [u64]) -> Verdict
+    ensures answer { λ r. ⌜ answer r ≡ answerOf (now (rows .entry)) (length (now (order .entry))) ⌝ }
+    ensures order { λ r. ⌜ now (order .exit) ≡ orderOf (now (rows .entry)) (now (order .entry)) ⌝ }
+    ensures meaning { λ r. ⌜ Means (now (rows .entry)) (now (order .entry)) (now (order .exit)) r ⌝ }
+{
+    if right_length(rows.len()) {} else {
+        return Verdict::WrongLength;
+    }
+    if well_formed(rows) {} else {
+        return Verdict::Malformed;
+    }
+    if order.len() < count_begins(rows) {
+        return Verdict::NoRoom;
+    }
+    let m = first_missing(rows);
+    if m < rows.len() {
+        return Verdict::NoOrder(m);
+    }
+    let count = put_keys(rows, order);
+    decode_all(order, count);
+    Verdict::Accepted(count)
+}
+
+// The number of the question answered no, or 0, without an order buffer: question 11 is not asked.
+pub(crate) fn number(rows: &[u64]) -> u32
+    ensures { λ r. ⌜ r ≡ numberOf (now (rows .entry)) ⌝ }
+{
+    if right_length(rows.len()) {} else {
+        return 9;
+    }
+    if well_formed(rows) {} else {
+        return 10;
+    }
+    if first_missing(rows) < rows.len() {
+        return 12;
+    }
+    0
+}

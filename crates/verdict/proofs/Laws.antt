@@ -1,0 +1,39 @@
+-- The verdict on bytes is the judge's on the rows.
+use Prim.Native.Nat.{ℕ, _%_, _<_}
+use native.Mathlib.Omega.{arith}
+use mathlib.Core.Path.{_≡_, refl}
+use mathlib.Core.Logic.{_≢_}
+use mathlib.Core.List.{List}
+use lib.ListN.{length, length-take}
+use borrow.Author.Tests.{eq-eqb, ne-eqb}
+use Rattle.logbytes.specs.Bytes.{rowsOf}
+use Rattle.judge.specs.Answer.{answer}
+use Rattle.judge.specs.Meaning.{Means}
+use Rattle.judge.specs.declared.verdict.Verdict.{Verdict}
+use Rattle.judge.specs.declared.verdict.Verdict.the-variants.{Accepted, WrongLength, Malformed, NoRoom, NoOrder}
+use Rattle.judge.proofs.ByteLaws.{rows-length}
+use Rattle.judge.proofs.Meaning.{Says, says-9}
+use Rattle.verdict.specs.Log.{logAnswer, logOrder, Fits}
+
+fits : (log o e : List ℕ) (v : Verdict) → Means log o e v → Fits v e
+fits log o e (Accepted n) m = (omega (arith, m .count, length-take n e), m .count)
+fits log o e WrongLength m = tt
+fits log o e Malformed m = tt
+fits log o e NoRoom m = tt
+fits log o e (NoOrder r) m = tt
+
+-- what judge_log says
+abbrev pub LogSays : List ℕ → List ℕ → List ℕ → Verdict → Type 0
+LogSays b o e v = (answer v ≡ logAnswer b (length o)) × ((e ≡ logOrder b o) × Fits v e)
+
+module _ (b o : List ℕ) where
+  pub odd : length b % 8 ≢ 0 → LogSays b o o WrongLength
+  unfolding logAnswer logOrder
+  odd n = rw (ne-eqb (length b % 8) 0 n) (refl, (refl, tt))
+
+  pub whole : length b % 8 ≡ 0 → (e : List ℕ) (v : Verdict) → Says (rowsOf b) o e v → LogSays b o e v
+  unfolding logAnswer logOrder
+  whole z e v s = rw (eq-eqb (length b % 8) 0 z) (s .0, (s .1 .0, fits (rowsOf b) o e v (s .1 .1)))
+
+  pub long : length b % 8 ≡ 0 → 32768 < length b → LogSays b o o WrongLength
+  long z a = whole z o WrongLength (says-9 (rowsOf b) o (λ s. omega (arith, rows-length b, s .few)))
