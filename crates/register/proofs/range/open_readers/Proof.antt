@@ -1,0 +1,67 @@
+use Rattle.protocol.proofs.Counting.{count-more, count-none, one-low}
+use Rattle.protocol.specs.State.{readerAt}
+use Rattle.protocol.specs.Counting.{count}
+use borrow.Author.Needs.{needs}
+use mathlib.Core.Bool.{Bool}
+use Prim.Native.Nat.{ℕ, _-_, _≤_}
+use mathlib.Core.Path.{_≡_, refl, sym, ap, _∙_}
+use native.Mathlib.Omega.{arith}
+use Rattle.register.proofs.range.open_readers.Statement.{statement}
+use Rattle.register.proofs.range.open_readers.Tie as tie
+
+abbrev Inv-loop : tie.InvT-loop
+Inv-loop s n m₀ i₀ m i = (n ≡ s .n) × (i ≤ n) × (n ≤ 16) × (m ≡ count i (λ (j : ℕ). readerAt s j .active)) × (m ≤ i)
+
+abbrev μ-loop : tie.MeasureT-loop
+μ-loop s n m₀ i₀ m i = n - i
+
+loop-holds : tie.Need-loop-holds Inv-loop μ-loop
+loop-holds c = (refl, omega arith, omega arith, sym (count-none _), omega arith)
+
+cast-loop : tie.Need-cast-loop Inv-loop μ-loop
+cast-loop c = omega arith
+
+mul-r : tie.Need-mul-r Inv-loop μ-loop
+mul-r c = omega arith
+
+element-copy-out-r : tie.Need-element-copy-out-r Inv-loop μ-loop
+element-copy-out-r c = omega arith
+
+add-m : tie.Need-add-m Inv-loop μ-loop
+add-m c = omega (arith, c .count-one .ensures, one-low (readerAt (c .before .before .before .before .args .t1) (c .before .before .before .loop .i) .active))
+
+add-i : tie.Need-add-i Inv-loop μ-loop
+add-i c = omega arith
+
+loop-less : tie.Need-loop-less Inv-loop μ-loop
+loop-less c = omega arith
+
+loop-again : tie.Need-loop-again Inv-loop μ-loop
+loop-again c =
+    let i = (c .before .before .before .loop .i) in
+    let s = (c .before .before .before .before .args .t1) in
+    let f : ℕ → Bool = λ j. readerAt s j .active in
+    (refl, omega arith, omega arith, rw (c .before .before .before .loop .inv .3, c .count-one .ensures) (sym (count-more i f)), omega (arith, c .count-one .ensures, one-low (f i)))
+
+returns : tie.Need-returns Inv-loop μ-loop
+returns c =
+    let s = c .before .before .args .t1 in
+    let e : c .before .loop .i ≡ s .n = omega arith in
+    c .before .loop .inv .3 ∙ ap (λ (k : ℕ). count k (λ (j : ℕ). readerAt s j .active)) e
+
+pub open-readers-spec : {M : Type 1} → statement M
+open-readers-spec =
+    tie.close
+    (tie.spec
+    Inv-loop
+    μ-loop
+    loop-holds
+    cast-loop
+    mul-r
+    element-copy-out-r
+    (λ c κs. search needs)
+    add-m
+    add-i
+    loop-less
+    loop-again
+    returns)

@@ -1,0 +1,61 @@
+-- What the functions inside the register ask of one another, and their outcomes as the definitions have them.
+use Prim.Native.Nat.{ℕ, _+_, _*_, _≤_, _<_}
+use mathlib.Core.Path.{_≡_}
+use mathlib.Core.Bool.{true, false}
+use mathlib.Core.List.{List, _++_}
+use lib.ListN.{replicate}
+use Rattle.words.specs.Stamp.{none}
+use Rattle.words.specs.Cell.{packCell}
+use Rattle.protocol.specs.Table.{plain}
+use lib.Count.{ones}
+use lib.Dec.{ltb}
+use Rattle.words.specs.Choice.{pick}
+use Rattle.protocol.specs.declared.Writer.{Writer}
+use Rattle.protocol.specs.declared.Reader.{Reader}
+use Rattle.protocol.specs.SetUp.{Outcome}
+use Rattle.protocol.specs.Write.{WriteStep, writerStores, writerEnds}
+use Rattle.protocol.specs.Read.{ReadStep}
+use Rattle.protocol.specs.State.{excludedBy}
+use Rattle.register.specs.declared.calls.Called.{Called}
+
+-- a table for n readers
+pub record TableOk (n cells : ℕ) : Type 0 where
+  pub n-low : 1 ≤ n
+  pub n-high : n ≤ 16
+  pub cells-are : n * n + n ≤ cells
+
+-- reader p with an open read in range
+pub record ReadOk (n p : ℕ) (r : Reader) : Type 0 where
+  pub p-low : 1 ≤ p
+  pub p-high : p ≤ n
+  pub moved-low : r .moved ≤ 3 * n + 5
+  pub in-first : r .second ≡ false → r .moved ≤ 2 * n + 2
+  pub in-second : r .second ≡ true → (n + 3 ≤ r .moved) × (r .moved ≤ 3 * n + 5)
+
+-- an open write in range
+pub record WriteOk (n : ℕ) (w : Writer) : Type 0 where
+  pub moved-low : w .moved < 2 * n
+  pub few : w .moved ≤ n → ones (excludedBy w) ≤ 2 + 3 * w .moved
+
+-- the writer behind a store
+abbrev pub storedWriter : ℕ → Writer → Writer
+storedWriter n w = pick (ltb (w .moved + 1) (2 * n)) (writerStores n w) (writerEnds n w)
+
+abbrev pub writeStepped : Writer → List ℕ → WriteStep
+writeStepped w t = record { writer = w; table = t }
+
+abbrev pub readStepped : Reader → List ℕ → ReadStep
+readStepped r t = record { reader = r; table = t }
+
+abbrev pub outcome : Called → List ℕ → List ℕ → Outcome
+outcome c t l = record { answer = c .answer; state = c .state; table = t; log = l }
+
+-- the words of the fresh cells, and the fresh table with them
+abbrev pub startWord : ℕ → ℕ
+startWord v = packCell (plain v (record { cur = 0; prev = 1 }))
+
+abbrev pub voidWord : ℕ
+voidWord = packCell (plain 0 none)
+
+abbrev pub freshWords : ℕ → ℕ → ℕ → List ℕ
+freshWords n first other = replicate n first ++ replicate (n * n) other
