@@ -1,21 +1,17 @@
--- A well-formed log's history meets the laws of histories.
-use Prim.Native.Nat.{ℕ, suc, zero, _≤_, _<_, _+_, _-_}
+-- The rows of a well-formed log by their fields, and a processor's open operation.
+use Prim.Native.Nat.{ℕ, suc, zero, _≤_, _<_}
 use native.Mathlib.Omega.{arith}
-use native.Mathlib.Decide.{ℕ-discrete, decLt}
-use mathlib.Core.Path.{_≡_, refl, _∙_, sym, ap}
-use mathlib.Core.Bool.{Bool, true, false, not, _&&_, _||_}
+use native.Mathlib.Decide.{ℕ-discrete}
+use mathlib.Core.Path.{_≡_, refl, _∙_, sym}
+use mathlib.Core.Bool.{Bool, true, false, not, _||_}
 use mathlib.Core.Logic.{_⊎_, inl, inr, _≢_}
-use mathlib.Core.List.{List, [], _∷_}
-use lib.Dec.{T, T-not, eqb, leb, ltb, eqb→eq, leb→le, ltb→lt, lt→ltb, le→leb, nleb→lt, lit<}
-use lib.ListN.{length, getD, List·getD-eq-default}
-use Rattle.history.specs.History.{History, nextOf, eventAt, endAt, historyOf}
-use Rattle.history.proofs.Placement.{Laws}
+use mathlib.Core.List.{List}
+use lib.Dec.{T, T-not, eqb, leb, eqb→eq, leb→le, ltb→lt}
+use lib.ListN.{getD}
 use Rattle.words.specs.Choice.{pick}
-use Rattle.words.proofs.Laws.Choice.{pick-T, eq→T, and-T, T-left, T-right}
-use Rattle.history.specs.Search.{first}
-use Rattle.history.proofs.Search.{first-ge, first-le, first-passes, first-least, first-is}
+use Rattle.words.proofs.Laws.Choice.{pick-T, eq→T, T-left, T-right, T→true, not→false}
 use Rattle.history.specs.Rows.{kindAt, processorAt, zeroAt, valueAt, beginsAt, begins}
-use Rattle.history.specs.WellFormed.{openAt, isReader, fields, fieldsOk, alternates, headOk, rowOk, all, wellFormed}
+use Rattle.history.specs.WellFormed.{openAt, isReader, fields, fieldsOk, alternates, rowOk, all}
 
 -- What a well-formed row says.
 pub record RowOk (log : List ℕ) (k : ℕ) : Type 0 where
@@ -27,13 +23,6 @@ pub record RowOk (log : List ℕ) (k : ℕ) : Type 0 where
   pub reader : 3 ≤ kindAt log k → (1 ≤ processorAt log k) × (processorAt log k ≤ processorAt log 0)
   pub begins : (kindAt log k ≡ 1) ⊎ (kindAt log k ≡ 3) → openAt log (processorAt log k) k ≡ 0
   pub ends : (kindAt log k ≡ 2) ⊎ (kindAt log k ≡ 4) → 0 < openAt log (processorAt log k) k
-
-pub T→true : (b : Bool) → T b → b ≡ true
-T→true true t = refl
-
-pub not→false : (b : Bool) → (T b → ⊥) → b ≡ false
-not→false true f = absurd (f tt)
-not→false false f = refl
 
 or-T : (a b : Bool) → T a ⊎ T b → T (a || b)
 or-T true b x = tt

@@ -1,12 +1,14 @@
--- The sessions of document 01 that are marked P, in its order.
+-- The sessions of document 01, in its order, and a few more. The words that runs leave are document 01's, or an outside model's.
 use Prim.Native.Nat.{ℕ}
-use mathlib.Core.List.{List, [], _∷_}
+use mathlib.Core.List.{List, [], _∷_, _++_}
+use lib.ListN.{replicate}
 use Rattle.words.specs.declared.stamp.Stamp.{Stamp}
 use Rattle.words.specs.declared.cell.Cell.{Cell}
 use Rattle.words.specs.declared.row.Row.{Row}
 use Rattle.words.specs.Stamp.{none}
 use Rattle.words.specs.Row.{packRow}
-use Rattle.sessions.specs.Session.{Session, cell, row, judged}
+use Rattle.protocol.specs.Reference.{Call, write, read, step}
+use Rattle.sessions.specs.Session.{Session, cell, row, judged, denied, run}
 
 abbrev stamp : ℕ → ℕ → Stamp
 stamp c p = record { cur = c; prev = p }
@@ -41,16 +43,127 @@ r i v = packRow (event 4 i v)
 abbrev places : List ℕ
 places = 77 ∷ 77 ∷ 77 ∷ 77 ∷ 77 ∷ []
 
+-- a table of k cells and a log of k rows to lend, with leftover words
+abbrev lent : ℕ → List ℕ
+lent k = replicate k 77
+
+abbrev paper : ℕ → List ℕ
+paper k = replicate k 55
+
+-- k sub-steps of processor p
+abbrev times : ℕ → ℕ → List Call
+times k p = replicate k (step p)
+
 abbrev pub table : List Session
 table =
     -- "n=1, start 7: cell 0 is 00000007001FFF00, cell 1 is 00000000FFFFFF00"
     cell (shows 7 (stamp 0 1)) 0x00000007001FFF00
     ∷ cell (shows 0 none) 0x00000000FFFFFF00
+    ∷ run 1 7 (lent 4) (paper 3) [] [] (0x00000007001FFF00 ∷ 0x00000000FFFFFF00 ∷ 77 ∷ 77 ∷ []) (0x5010000000000007 ∷ 55 ∷ 55 ∷ [])
+    -- "Writes with no read, n=1: stamps (2,0), (1,2), (0,1)."
+    ∷ run 1 7 (lent 4) (paper 8) (write 9 ∷ times 2 0) (0 ∷ 1 ∷ 2 ∷ [])
+    (0x00000009080FFF00 ∷ 0x00000000FFFFFF00 ∷ 77 ∷ 77 ∷ [])
+    (0x5010000000000007 ∷ 0x1000000000000009 ∷ 0x2000000000000000 ∷ 55 ∷ 55 ∷ 55 ∷ 55 ∷ 55 ∷ [])
+    ∷ run 1 7 (lent 4) (paper 8) (write 9 ∷ times 2 0 ++ write 8 ∷ times 2 0) (0 ∷ 1 ∷ 2 ∷ 0 ∷ 1 ∷ 2 ∷ [])
+    (0x00000008042FFF00 ∷ 0x00000000FFFFFF00 ∷ 77 ∷ 77 ∷ [])
+    (0x5010000000000007 ∷ 0x1000000000000009 ∷ 0x2000000000000000 ∷ 0x1000000000000008 ∷ 0x2000000000000000 ∷ 55 ∷ 55 ∷ 55 ∷ [])
+    ∷ run 1 7 (lent 4) (paper 8) (write 9 ∷ times 2 0 ++ write 8 ∷ times 2 0 ++ write 7 ∷ times 2 0)
+    (0 ∷ 1 ∷ 2 ∷ 0 ∷ 1 ∷ 2 ∷ 0 ∷ 1 ∷ 2 ∷ [])
+    (0x00000007001FFF00 ∷ 0x00000000FFFFFF00 ∷ 77 ∷ 77 ∷ [])
+    (0x5010000000000007
+    ∷ 0x1000000000000009
+    ∷ 0x2000000000000000
+    ∷ 0x1000000000000008
+    ∷ 0x2000000000000000
+    ∷ 0x1000000000000007
+    ∷ 0x2000000000000000
+    ∷ 55
+    ∷ [])
     -- "After the first, of 9: cell 0 is 00000009080FFF00."
     ∷ cell (shows 9 (stamp 2 0)) 0x00000009080FFF00
     -- "First two sub-steps of a fresh read, n=1: cell 1 is 00000000FFF00100; after all 5, 00000000001FFF00."
     ∷ cell (announces none (stamp 0 1)) 0x00000000FFF00100
     ∷ cell (shows 0 (stamp 0 1)) 0x00000000001FFF00
+    ∷ run 1 7 (lent 4) (paper 4) (read 1 ∷ times 2 1) (0 ∷ 1 ∷ 2 ∷ [])
+    (0x00000007001FFF00 ∷ 0x00000000FFF00100 ∷ 77 ∷ 77 ∷ [])
+    (0x5010000000000007 ∷ 0x3010000000000000 ∷ 55 ∷ 55 ∷ [])
+    ∷ run 1 7 (lent 4) (paper 4) (read 1 ∷ times 5 1) (0 ∷ 1 ∷ 2 ∷ 3 ∷ 4 ∷ 5 ∷ [])
+    (0x00000007001FFF00 ∷ 0x00000000001FFF00 ∷ 77 ∷ 77 ∷ [])
+    (0x5010000000000007 ∷ 0x3010000000000000 ∷ 0x4010000000000007 ∷ 55 ∷ [])
+    -- "n=1: one read sub-step, a whole write of 9, the rest: 9 at sub-step 9."
+    ∷ run 1 7 (lent 4) (paper 6) (read 1 ∷ step 1 ∷ write 9 ∷ times 2 0 ++ times 8 1)
+    (0 ∷ 1 ∷ 0 ∷ 1 ∷ 2 ∷ 2 ∷ 3 ∷ 4 ∷ 5 ∷ 6 ∷ 7 ∷ 8 ∷ 9 ∷ [])
+    (0x00000009080FFF00 ∷ 0x00000000080FFF00 ∷ 77 ∷ 77 ∷ [])
+    (0x5010000000000007 ∷ 0x3010000000000000 ∷ 0x1000000000000009 ∷ 0x2000000000000000 ∷ 0x4010000000000009 ∷ 55 ∷ [])
+    -- "n=2: write of 9 stopped after 3 sub-steps, reader 1 reads 9, then reader 2 reads 9."
+    ∷ run 2 7 (lent 8) (paper 7) (write 9 ∷ times 3 0 ++ read 1 ∷ times 7 1 ++ read 2 ∷ times 7 2)
+    (0 ∷ 1 ∷ 2 ∷ 3 ∷ 0 ∷ 1 ∷ 2 ∷ 3 ∷ 4 ∷ 5 ∷ 6 ∷ 7 ∷ 0 ∷ 1 ∷ 2 ∷ 3 ∷ 4 ∷ 5 ∷ 6 ∷ 7 ∷ [])
+    (0x00000009080FFF00
+    ∷ 0x00000007001FFF00
+    ∷ 0x00000000080FFF00
+    ∷ 0x00000009080FFF00
+    ∷ 0x00000000080FFF00
+    ∷ 0x00000009080FFF00
+    ∷ 77
+    ∷ 77
+    ∷ [])
+    (0x5020000000000007
+    ∷ 0x1000000000000009
+    ∷ 0x3010000000000000
+    ∷ 0x4010000000000009
+    ∷ 0x3020000000000000
+    ∷ 0x4020000000000009
+    ∷ 55
+    ∷ [])
+    -- n=3, the same with a write stopped after 4: readers 1 and 3 read 9, reader 2 has announced its first look
+    ∷ run 3 7 (lent 14) (paper 9) (write 9 ∷ times 4 0 ++ read 1 ∷ times 9 1 ++ read 3 ∷ times 9 3 ++ read 2 ∷ times 3 2)
+    (0 ∷ 1 ∷ 2 ∷ 3 ∷ 4 ∷ 0 ∷ 1 ∷ 2 ∷ 3 ∷ 4 ∷ 5 ∷ 6 ∷ 7 ∷ 8 ∷ 9 ∷ 0 ∷ 1 ∷ 2 ∷ 3 ∷ 4 ∷ 5 ∷ 6 ∷ 7 ∷ 8 ∷ 9 ∷ 0 ∷ 1 ∷ 2 ∷ 3 ∷ [])
+    (0x00000009080FFF00
+    ∷ 0x00000007001FFF00
+    ∷ 0x00000007001FFF00
+    ∷ 0x00000000080FFF00
+    ∷ 0x00000009080FFF00
+    ∷ 0x00000009080FFF00
+    ∷ 0x00000000FFF00100
+    ∷ 0x00000000FFFFFF00
+    ∷ 0x00000000FFFFFF00
+    ∷ 0x00000000080FFF00
+    ∷ 0x00000009080FFF00
+    ∷ 0x00000009080FFF00
+    ∷ 77
+    ∷ 77
+    ∷ [])
+    (0x5030000000000007
+    ∷ 0x1000000000000009
+    ∷ 0x3010000000000000
+    ∷ 0x4010000000000009
+    ∷ 0x3030000000000000
+    ∷ 0x4030000000000009
+    ∷ 0x3020000000000000
+    ∷ 55
+    ∷ 55
+    ∷ [])
+    -- n=2: a whole write within each attempt, so that the read gives its second first look's 8, and shows none
+    ∷ run 2 7 (lent 8) (paper 8) (read 1 ∷ step 1 ∷ write 8 ∷ times 4 0 ++ times 5 1 ++ write 9 ∷ times 4 0 ++ times 6 1)
+    (0 ∷ 1 ∷ 0 ∷ 1 ∷ 2 ∷ 3 ∷ 4 ∷ 2 ∷ 3 ∷ 4 ∷ 5 ∷ 6 ∷ 0 ∷ 1 ∷ 2 ∷ 3 ∷ 4 ∷ 7 ∷ 8 ∷ 9 ∷ 10 ∷ 11 ∷ 12 ∷ [])
+    (0x000000090C2FFF00
+    ∷ 0x000000090C2FFF00
+    ∷ 0x00000000FFFFFF00
+    ∷ 0x00000000FFFFFF00
+    ∷ 0x00000000FFFFFF00
+    ∷ 0x00000000FFFFFF00
+    ∷ 77
+    ∷ 77
+    ∷ [])
+    (0x5020000000000007
+    ∷ 0x3010000000000000
+    ∷ 0x1000000000000008
+    ∷ 0x2000000000000000
+    ∷ 0x1000000000000009
+    ∷ 0x2000000000000000
+    ∷ 0x4010000000000008
+    ∷ 55
+    ∷ [])
     -- "Rows: 1000000000000009 (W 9), 4010000000000009 (reader 1 ends, 9)."
     ∷ row (event 1 0 9) 0x1000000000000009
     ∷ row (event 4 1 9) 0x4010000000000009
@@ -65,4 +178,18 @@ table =
     ∷ judged [] places 9 [] places
     ∷ judged (two (W 5 ∷ W 6 ∷ [])) places 10 [] places
     ∷ judged (two (W 5 ∷ R 1 ∷ [])) (77 ∷ []) 11 [] (77 ∷ [])
+    -- "0 and 17 readers: 1. Log of 2: 3.", and a cell short
+    ∷ denied 0 7 (lent 4) (paper 3) 1
+    ∷ denied 17 7 (lent 4) (paper 3) 1
+    ∷ denied 1 7 (lent 1) (paper 3) 2
+    ∷ denied 1 7 (lent 4) (paper 2) 3
+    -- "Log of 3: one operation fits, the next begin gives 7.", also while the one is open
+    ∷ run 1 7 (lent 4) (paper 3) (read 1 ∷ write 9 ∷ times 5 1 ++ write 9 ∷ []) (0 ∷ 107 ∷ 1 ∷ 2 ∷ 3 ∷ 4 ∷ 5 ∷ 107 ∷ [])
+    (0x00000007001FFF00 ∷ 0x00000000001FFF00 ∷ 77 ∷ 77 ∷ [])
+    (0x5010000000000007 ∷ 0x3010000000000000 ∷ 0x4010000000000007 ∷ [])
+    -- refusals 5, 8 and 6: no such reader or processor, a sub-step of an idle one, a begin of a busy one
+    ∷ run 1 7 (lent 4) (paper 5) (read 0 ∷ read 2 ∷ step 2 ∷ step 1 ∷ write 9 ∷ write 8 ∷ times 3 0)
+    (105 ∷ 105 ∷ 105 ∷ 108 ∷ 0 ∷ 106 ∷ 1 ∷ 2 ∷ 108 ∷ [])
+    (0x00000009080FFF00 ∷ 0x00000000FFFFFF00 ∷ 77 ∷ 77 ∷ [])
+    (0x5010000000000007 ∷ 0x1000000000000009 ∷ 0x2000000000000000 ∷ 55 ∷ 55 ∷ [])
     ∷ []
