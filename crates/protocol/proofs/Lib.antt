@@ -12,6 +12,7 @@ pub mod Refine
 pub mod Run
 pub mod Counts
 pub mod Effects
+pub mod Cells
 pub mod Rows
 pub mod Numbered
 pub mod Formed

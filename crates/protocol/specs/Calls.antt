@@ -1,7 +1,7 @@
 -- Begins and sub-steps, with their questions in document 01's order.
 use Prim.Native.Nat.{ℕ, _+_, _-_}
 use mathlib.Core.List.{List}
-use mathlib.Core.Bool.{true, false, _&&_}
+use mathlib.Core.Bool.{Bool, true, false, _&&_}
 use lib.ListN.{length, set}
 use lib.Dec.{leb, eqb}
 use Rattle.words.specs.Choice.{pick}
@@ -43,12 +43,16 @@ readerBegins r = record {
   result = r .result;
 }
 
--- "A begin call adds its row": 4; the writer is a processor; "is it idle (6)? Are free rows at least open operations plus 2 (7)?"
+-- "Are free rows at least open operations plus 2 (7)?"
+abbrev pub hasRoom : State → Bool
+hasRoom s = leb (s .used + openIn s + 2) (s .rows)
+
+-- "A begin call adds its row": 4; the writer is a processor; "is it idle (6)?" and 7
 unfoldable pub beginWriteOf : State → List ℕ → List ℕ → ℕ → Outcome
 beginWriteOf s t l v =
     pick (stateOk s (length t) (length l))
     (pick (s .writer .active) (refused Busy s t l)
-    (pick (leb (s .used + openIn s + 2) (s .rows))
+    (pick (hasRoom s)
     (record {
       answer = Accepted;
       state = withWriter s (writerBegins (s .writer) v) (s .used + 1);
@@ -63,7 +67,7 @@ beginReadOf s t l p =
     pick (stateOk s (length t) (length l))
     (pick (leb 1 p && leb p (s .n))
     (pick (readerAt s (p - 1) .active) (refused Busy s t l)
-    (pick (leb (s .used + openIn s + 2) (s .rows))
+    (pick (hasRoom s)
     (record {
       answer = Accepted;
       state = withReader s (p - 1) (readerBegins (readerAt s (p - 1))) (s .used + 1);

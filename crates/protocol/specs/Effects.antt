@@ -1,9 +1,11 @@
 -- What a call may touch.
-use Prim.Native.Nat.{ℕ, _<_}
+use Prim.Native.Nat.{ℕ, _≤_, _<_}
 use mathlib.Core.Path.{_≡_}
 use mathlib.Core.List.{List}
 use lib.ListN.{getD, set}
+use Rattle.words.specs.Stamp.{none}
 use Rattle.words.specs.Index.{index, Pair}
+use Rattle.protocol.specs.Table.{view}
 
 -- "a bus that moves one word at a time between two fixed parts": a sub-step of processor p, by what comes of the processor and of the
 -- table t, moves one word of the table, from or to another processor.
@@ -19,3 +21,8 @@ pub data OneWord (n p : ℕ) {A : Type 0} (next : List ℕ → A) (table : List 
 pub data AtMostOne (b : ℕ) (l : List ℕ) : List ℕ → Type 0 where
   as-it-was : AtMostOne b l l
   one-set : (k w : ℕ) → k < b → AtMostOne b l (set l k w)
+
+-- "Cells to the writer have reading 0; in all other cells the announced fields are always none."
+pub record CellsKept (n : ℕ) (t : List ℕ) : Type 0 where
+  pub to-writer : (i : ℕ) → Pair n i 0 → view n t i 0 .value ≡ 0
+  pub to-reader : (i j : ℕ) → Pair n i j → 1 ≤ j → view n t i j .announced ≡ none

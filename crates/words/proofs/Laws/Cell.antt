@@ -1,9 +1,11 @@
 -- Packing and unpacking a cell.
 use Prim.Native.Nat.{ℕ, _+_, _*_, _/_, _%_, _^_, _<_}
-use mathlib.Core.Path.{_≡_}
+use mathlib.Core.Path.{_≡_, ap, _∙_}
 use native.Mathlib.Nat.{mod-mod}
 use native.Mathlib.Omega.{arith}
 use Rattle.words.specs.declared.cell.Cell.{Cell}
+use Rattle.words.specs.declared.stamp.Stamp.{Stamp}
+use Rattle.words.specs.Stamp.{none}
 use Rattle.words.specs.Bits.{low, field}
 use Rattle.words.specs.Cell.{packCell, unpackCell, CellFits}
 use Rattle.words.proofs.Laws.Bits.{split-field}
@@ -41,3 +43,16 @@ pack-unpack w h z =
 pub packed-cur : (c : Cell) → unpackCell (packCell c) .stamp .cur ≡ low 6 (c .stamp .cur)
 unfolding packCell unpackCell
 packed-cur c = omega arith
+
+-- and what a value 0, and an announced none, are when they are unpacked
+pub packed-zero : (c : Cell) → c .value ≡ 0 → unpackCell (packCell c) .value ≡ 0
+unfolding packCell unpackCell
+packed-zero c e = omega arith
+
+pub packed-none : (c : Cell) → c .announced ≡ none → unpackCell (packCell c) .announced ≡ none
+unfolding packCell unpackCell
+packed-none c e =
+    let w : ℕ = packCell c in
+    let ac : field 14 6 w ≡ low 6 (c .announced .cur) = omega arith in
+    let pr : field 8 6 w ≡ low 6 (c .announced .prev) = omega arith in
+    λ i. record { cur = (ac ∙ ap (λ (s : Stamp). low 6 (s .cur)) e) i; prev = (pr ∙ ap (λ (s : Stamp). low 6 (s .prev)) e) i }
