@@ -7,14 +7,16 @@ use mathlib.Core.Bool.{Bool, true, false, _&&_}
 use native.Mathlib.Omega.{arith}
 use native.Mathlib.Nat.{mod-lt}
 use native.Mathlib.Numerals.{add-one}
-use lib.Dec.{eqb, ltb}
+use lib.Dec.{T, eqb, ltb}
 use lib.ListN.{length, getD, set, take, drop, take-append-drop, drop-of-length-le}
 use lib.Seq.{drop-cons, take-suc-set, drop-set-lt}
 use borrow.Author.Tests.{eq-eqb, ne-eqb, ltb-true, ltb-false}
 use Rattle.words.proofs.Laws.Choice.{pick-ind, left, right}
 use Rattle.words.specs.Bits.{low}
 use Rattle.protocol.specs.declared.State.{State}
+use Rattle.history.specs.WellFormed.{wellFormed}
 use Rattle.history.specs.Linearization.{Orders}
+use Rattle.history.proofs.Theorems.{never-older}
 use Rattle.protocol.specs.declared.Answer.{Answer}
 use Rattle.protocol.specs.declared.Answer.the-variants.{Accepted}
 use Rattle.protocol.specs.SetUp.{Outcome, setUpOf}
@@ -200,6 +202,7 @@ module _ (n v : ℕ) (t l words places : List ℕ) where
         cells-beyond = w .cells-beyond;
         rows-beyond = w .rows-beyond;
         ordered = subst (λ (rows : List ℕ). (o : List ℕ) × Orders rows o) (sym (w .rows-are)) (w .ordered);
+        never-older = never-older _ (subst (λ (rows : List ℕ). T (wellFormed rows)) (sym (w .rows-are)) (w .formed));
         whole = w;
       }
 

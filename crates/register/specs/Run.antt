@@ -1,5 +1,5 @@
 -- A list of calls as words: the kind above, the number below.
-use Prim.Native.Nat.{ℕ, _+_, _*_, _^_}
+use Prim.Native.Nat.{ℕ, _+_, _*_, _^_, _≤_}
 use mathlib.Core.Path.{_≡_}
 use mathlib.Core.Bool.{Bool, _||_}
 use mathlib.Core.List.{List, [], _∷_, _++_, map}
@@ -13,7 +13,8 @@ use Rattle.protocol.specs.Answers.{numberOf, subStepOf}
 use Rattle.protocol.specs.SetUp.{setUpOf}
 use Rattle.protocol.specs.Reference.{Call, write, read, step}
 use Rattle.protocol.specs.Runs.{runOf}
-use Rattle.history.specs.Linearization.{Orders}
+use Rattle.history.specs.History.{historyOf, Precedes}
+use Rattle.history.specs.Linearization.{Stands, lastWrite, Orders}
 use Rattle.protocol.specs.Whole.{Whole, bookOf}
 use Rattle.register.specs.declared.run.Made.{Made}
 
@@ -67,6 +68,12 @@ runWordsOf n v words t l places =
     let o = setUpOf n v t l in
     madeOf (o .state) (o .table) (o .log) (pick (eqb (answerWord (o .answer)) 0) words []) places
 
+-- in an order o of a log, reads one after the other stand behind writes that rise
+abbrev pub NeverOlder : List ℕ → List ℕ → Type 0
+NeverOlder log o =
+    (i j r s : ℕ) → Stands o i r → Stands o j s → Precedes (historyOf log) r s
+    → lastWrite (historyOf log) o i ≤ lastWrite (historyOf log) o j
+
 -- Demand 3 about the code: what an accepted run of n readers leaves in m, with the words and the buffers that it was handed.
 module _ (n v : ℕ) (t l words places : List ℕ) (m : MadeCalls) where
   pub record WholeRun : Type 0 where
@@ -81,5 +88,8 @@ module _ (n v : ℕ) (t l words places : List ℕ) (m : MadeCalls) where
     pub rows-beyond : drop (m .state .used) (m .log) ≡ drop (m .state .used) (setUpOf n v t l .log)
     -- "and that log has such an order"
     pub ordered : (o : List ℕ) × Orders (take (m .state .used) (m .log)) o
+    -- "can yours be the older although you looked later?" In no order of the log: a read that began after another had ended stands
+    -- behind the same write or a later one.
+    pub never-older : (o : List ℕ) → Orders (take (m .state .used) (m .log)) o → NeverOlder (take (m .state .used) (m .log)) o
     -- the sub-steps' numbers, the ends and the new tickets: the claim about the calls that were made
     pub whole : Whole n v t l (callsIn words places)
