@@ -8,6 +8,8 @@ pub mod Range
 pub mod Keep
 pub mod WriterRel
 pub mod ReaderRel
+pub mod ReaderAttempt
+pub mod ReaderTurn
 pub mod Refine
 pub mod Run
 pub mod Counts

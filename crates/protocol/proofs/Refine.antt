@@ -36,7 +36,8 @@ use Rattle.protocol.specs.Runs.{callOf}
 use Rattle.words.specs.declared.stamp.Stamp.{Stamp}
 use Rattle.protocol.proofs.Smallest.{bars}
 use Rattle.protocol.proofs.WriterRel.{WRel, WriterRel, WTurnRel, turn-w-rel}
-use Rattle.protocol.proofs.ReaderRel.{Trying, RRel, ReaderRel, RTurnRel, turn-r-rel, reads, rel-opened}
+use Rattle.protocol.proofs.ReaderRel.{Trying, RRel, ReaderRel, RTurnRel, reads, rel-opened}
+use Rattle.protocol.proofs.ReaderTurn.{turn-r-rel}
 use Rattle.protocol.specs.declared.Refusal.{Refusal}
 use Rattle.protocol.specs.declared.Refusal.the-variants.{Range, Processor, Busy, Full, Idle}
 
