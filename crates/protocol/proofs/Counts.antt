@@ -23,7 +23,7 @@ use Rattle.protocol.specs.declared.Answer.the-variants.{Moved}
 use Rattle.protocol.specs.Table.{view, store}
 use Rattle.protocol.specs.State.{readerAt}
 use Rattle.protocol.specs.InRange.{ReaderInRange}
-use Rattle.protocol.specs.Reference.{Operation, idle, open-with, Book, isOpen, newTicket, barred, isIn, Turn, writeTurn, failed, attemptTurn, resultTurn, readTurn, Told, declined, movesWrite, movesRead, step, told}
+use Rattle.protocol.specs.Reference.{Operation, idle, open-with, Model, isOpen, newTicket, excludedTickets, isIn, Turn, writeTurn, failed, attemptTurn, resultTurn, readTurn, Told, declined, movesWrite, movesRead, step, told}
 use Rattle.protocol.specs.Runs.{callOf}
 use Rattle.protocol.specs.Whole.{Moves, NewTicket}
 use Rattle.protocol.proofs.NewTicket.{barred-length}
@@ -34,7 +34,7 @@ use Rattle.protocol.proofs.ReaderRel.{RRel, ReaderRel}
 use Rattle.protocol.proofs.Refine.{Rel, call-rel}
 
 -- s, t, l: the state with its buffers; b: the book that it is related to.
-module _ (X L : List ℕ) (s : State) (t l : List ℕ) (b : Book) (g : Good s (length t) (length l)) (R : Rel X L s t l b) (full : length L ≡ s .rows) where
+module _ (X L : List ℕ) (s : State) (t l : List ℕ) (b : Model) (g : Good s (length t) (length l)) (R : Rel X L s t l b) (full : length L ≡ s .rows) where
   abbrev n : ℕ
   n = s .n
 
@@ -52,7 +52,7 @@ module _ (X L : List ℕ) (s : State) (t l : List ℕ) (b : Book) (g : Good s (l
     abbrev On : Bool → Turn → Type 0
     On c x = isOpen (x .op) ≡ c
 
-    pub write-moves : Moves (callOf s t l (step 0) .answer) (told n (s .rows) b (step 0) .book) 0 m (2 * n)
+    pub write-moves : Moves (callOf s t l (step 0) .answer) (told n (s .rows) b (step 0) .model) 0 m (2 * n)
     unfolding writeTurn
     write-moves = record {
       number-is = call-rel X L s t l b g R full (step 0) .answer-is ∙ ap (λ (x : Told). x .answer) step-is;
@@ -68,20 +68,20 @@ module _ (X L : List ℕ) (s : State) (t l : List ℕ) (b : Book) (g : Good s (l
 
     -- the first store: its cell holds the new ticket
     module _ (at : m ≡ n) where
-      taken : New (barred (b .stamp 0) cells) (newTicket (barred (b .stamp 0) cells))
+      taken : New (excludedTickets (b .stamp 0) cells) (newTicket (excludedTickets (b .stamp 0) cells))
       taken =
           let z = taken-is n (g .ok .n-low) (g .ok .n-high) (b .table) X (R .size-is) (s .writer) (b .stamp 0) v m cells K (R .writer-is .stamp-is) (g .ok .writer-ok) at in
-          subst (New (barred (b .stamp 0) cells)) (z .is-new) z
+          subst (New (excludedTickets (b .stamp 0) cells)) (z .is-new) z
 
-      ticket-low : newTicket (barred (b .stamp 0) cells) ≤ 3 * n + 2
+      ticket-low : newTicket (excludedTickets (b .stamp 0) cells) ≤ 3 * n + 2
       ticket-low = omega (arith, taken .most, barred-length (b .stamp 0) cells, K .length-is (omega arith))
 
       abbrev Stores : Turn → Type 0
-      Stores x = view n (x .table ++ X) 0 1 .stamp .cur ≡ newTicket (barred (b .stamp 0) cells)
+      Stores x = view n (x .table ++ X) 0 1 .stamp .cur ≡ newTicket (excludedTickets (b .stamp 0) cells)
 
       -- what is stored to reader 1 shows the ticket
-      shows : (c : Cell) → c .stamp .cur ≡ newTicket (barred (b .stamp 0) cells)
-          → view n (store n (b .table) 0 (m - n + 1) c ++ X) 0 1 .stamp .cur ≡ newTicket (barred (b .stamp 0) cells)
+      shows : (c : Cell) → c .stamp .cur ≡ newTicket (excludedTickets (b .stamp 0) cells)
+          → view n (store n (b .table) 0 (m - n + 1) c ++ X) 0 1 .stamp .cur ≡ newTicket (excludedTickets (b .stamp 0) cells)
       shows c q =
           let one : m - n + 1 ≡ 1 = omega arith in
           let low = index-low n 0 1 (omega (arith, g .ok .n-low)) in
@@ -100,14 +100,14 @@ module _ (X L : List ℕ) (s : State) (t l : List ℕ) (b : Book) (g : Good s (l
           lt-ind Stores m n _ _ (λ h. absurd (omega arith))
           (λ _. lt-ind Stores (m + 1) (2 * n) _ _ (λ _. shows _ refl) (λ _. shows _ refl))
 
-      stored : view n (callOf s t l (step 0) .table) 0 1 .stamp .cur ≡ newTicket (barred (b .stamp 0) cells)
+      stored : view n (callOf s t l (step 0) .table) 0 1 .stamp .cur ≡ newTicket (excludedTickets (b .stamp 0) cells)
       stored =
           ap (λ (x : List ℕ). view n x 0 1 .stamp .cur) (call-rel X L s t l b g R full (step 0) .rel .table-is)
-          ∙ ap (λ (x : Told). view n (x .book .table ++ X) 0 1 .stamp .cur) step-is
+          ∙ ap (λ (x : Told). view n (x .model .table ++ X) 0 1 .stamp .cur) step-is
           ∙ stores
 
-      pub first-ticket : NewTicket n (callOf s t l (step 0) .table) (barred (b .stamp 0) cells)
-      first-ticket = record { unbarred = rw stored (taken .out); one-of = rw stored ticket-low }
+      pub first-ticket : NewTicket n (callOf s t l (step 0) .table) (excludedTickets (b .stamp 0) cells)
+      first-ticket = record { not-excluded = rw stored (taken .out); one-of = rw stored ticket-low }
 
   module _ (p : ℕ) (p1 : 1 ≤ p) (pn : p ≤ s .n) (v m : ℕ) (cells : List Cell) (e : b .op p ≡ open-with v m cells) where
     KR : RRel n (readerAt s (p - 1)) m cells
@@ -153,7 +153,7 @@ module _ (X L : List ℕ) (s : State) (t l : List ℕ) (b : Book) (g : Good s (l
         eq-ind (OnR true) l 2 _ _ (λ _. refl) λ _.
         lt-ind (OnR true) l (n + 2) _ _ (λ _. refl) (λ _. refl)
 
-    pub read-moves : Moves (callOf s t l (step p) .answer) (told n (s .rows) b (step p) .book) p m last
+    pub read-moves : Moves (callOf s t l (step p) .answer) (told n (s .rows) b (step p) .model) p m last
     unfolding readTurn resultTurn
     read-moves = record {
       number-is = call-rel X L s t l b g R full (step p) .answer-is ∙ ap (λ (x : Told). x .answer) step-is-r;

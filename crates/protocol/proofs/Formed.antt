@@ -21,7 +21,7 @@ use Rattle.history.proofs.Operations.{open-suc}
 use Rattle.history.proofs.WellFormed.{nonempty}
 use Rattle.history.proofs.Grow.{grown, grown-length, grown-proc, grown-open, grown-wellFormed}
 use Rattle.protocol.specs.Calls.{rowOf}
-use Rattle.protocol.specs.Reference.{Operation, idle, open-with, Book, Turn, isOpen, writeTurn, readTurn, Told, begins as bookBegins, entered, movesWrite, movesRead, Call, write, read, step, told, freshBook, kept}
+use Rattle.protocol.specs.Reference.{Operation, idle, open-with, Model, Turn, isOpen, writeTurn, readTurn, Told, begins as modelBegins, entered, movesWrite, movesRead, Call, write, read, step, told, freshModel, kept}
 use Rattle.protocol.proofs.Rows.{row-kind, row-processor, row-value, row-zero}
 
 -- A processor's last row is a begin exactly if it is open.
@@ -104,13 +104,13 @@ write-value n t s v m cells =
 reader-T : (p n : ℕ) → 1 ≤ p → p ≤ n → T (isReader p n)
 reader-T p n a b = and-T (leb 1 p) _ (le→leb 1 p a) (le→leb p n b)
 
-module _ (n : ℕ) (few : n ≤ 16) (len : ℕ) (b : Book) (F : Formed n (b .rows) (b .op)) where
+module _ (n : ℕ) (few : n ≤ 16) (len : ℕ) (b : Model) (F : Formed n (b .rows) (b .op)) where
   abbrev Fine : Told → Type 0
-  Fine x = Formed n (x .book .rows) (x .book .op)
+  Fine x = Formed n (x .model .rows) (x .model .op)
 
   begins-formed : (p kind v : ℕ) → kind < 2 ^ 4 → p < 2 ^ 8 → T (fields kind p 0 (valueOf (rowOf kind p v)) n) → (eqb kind 1 || eqb kind 3) ≡ true
-      → Fine (bookBegins n len b p kind v)
-  unfolding bookBegins
+      → Fine (modelBegins n len b p kind v)
+  unfolding modelBegins
   begins-formed p kind v kl pl fit g =
       pick-ind Fine (isOpen (b .op p)) _ _ (λ _. F)
       (λ e. le-ind Fine _ len _ _ (λ _. add-row n (b .rows) (b .op) F kind p v (open-with v 0 []) kl pl fit g e) (λ _. F))
@@ -145,11 +145,11 @@ module _ (n : ℕ) (few : n ≤ 16) (len : ℕ) (b : Book) (F : Formed n (b .row
       at-reader p1 pn (open-with v m cells) e =
           turn-formed p 4 (readTurn n p (b .table) (b .stamp p) m cells) (omega arith) (omega arith) (ap isOpen e) refl (reader-T p n p1 pn)
 
-kept-formed : (n : ℕ) → n ≤ 16 → (len : ℕ) (cs : List Call) (b : Book) → Formed n (b .rows) (b .op)
-    → Formed n (kept n len b cs .book .rows) (kept n len b cs .book .op)
+kept-formed : (n : ℕ) → n ≤ 16 → (len : ℕ) (cs : List Call) (b : Model) → Formed n (b .rows) (b .op)
+    → Formed n (kept n len b cs .model .rows) (kept n len b cs .model .op)
 unfolding kept
 kept-formed n few len [] b F = F
-kept-formed n few len (x ∷ cs) b F = kept-formed n few len cs (told n len b x .book) (told-formed n few len b F x)
+kept-formed n few len (x ∷ cs) b F = kept-formed n few len cs (told n len b x .model) (told-formed n few len b F x)
 
 -- The start row alone.
 fresh-formed : (n v : ℕ) → 1 ≤ n → n ≤ 16 → Formed n (rowOf 5 n v ∷ []) (λ _. idle)
@@ -161,5 +161,5 @@ fresh-formed n v pos few = record {
   open-is = λ _ e. never (sym e);
 }
 
-pub rows-formed : (n len v : ℕ) (cs : List Call) → 1 ≤ n → n ≤ 16 → T (wellFormed (kept n len (freshBook n v) cs .book .rows))
-rows-formed n len v cs pos few = kept-formed n few len cs (freshBook n v) (fresh-formed n v pos few) .ok
+pub rows-formed : (n len v : ℕ) (cs : List Call) → 1 ≤ n → n ≤ 16 → T (wellFormed (kept n len (freshModel n v) cs .model .rows))
+rows-formed n len v cs pos few = kept-formed n few len cs (freshModel n v) (fresh-formed n v pos few) .ok

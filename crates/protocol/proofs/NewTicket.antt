@@ -12,7 +12,7 @@ use borrow.Author.Tests.{eq-eqb, eqb-true}
 use Rattle.words.proofs.Laws.Choice.{pick-ind, never}
 use Rattle.words.specs.declared.stamp.Stamp.{Stamp}
 use Rattle.words.specs.declared.cell.Cell.{Cell}
-use Rattle.protocol.specs.Reference.{isIn, firstFree, newTicket, barred}
+use Rattle.protocol.specs.Reference.{isIn, firstFree, newTicket, excludedTickets}
 
 -- the test, and membership
 in→mem : (t : ℕ) (b : List ℕ) → isIn t b ≡ true → List·Memᴰ t b
@@ -93,7 +93,7 @@ pub newTicket-new : (b : List ℕ) → ¬ List·Memᴰ (newTicket b) b
 newTicket-new b m = never (sym (mem→in _ b m) ∙ newTicket-out b)
 
 -- So behind n cells the new ticket is at most 3n+2.
-pub barred-length : (s : Stamp) (cells : List Cell) → length (barred s cells) ≡ 2 + 3 * length cells
-unfolding barred
+pub barred-length : (s : Stamp) (cells : List Cell) → length (excludedTickets s cells) ≡ 2 + 3 * length cells
+unfolding excludedTickets
 barred-length s [] = refl
 barred-length s (x ∷ cells) = omega (arith, barred-length s cells)

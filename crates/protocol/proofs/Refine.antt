@@ -31,7 +31,7 @@ use Rattle.protocol.specs.Read.{valueIn}
 use Rattle.protocol.specs.Write.{writeStep}
 use Rattle.protocol.specs.Read.{readStep}
 use Rattle.protocol.specs.SetUp.{Outcome, refused}
-use Rattle.protocol.specs.Reference.{Call, write, read, step, Operation, idle, open-with, Book, Turn, isOpen, writeTurn, readTurn, Told, openCount, declined, begins, entered, movesWrite, movesRead, told}
+use Rattle.protocol.specs.Reference.{Call, write, read, step, Operation, idle, open-with, Model, Turn, isOpen, writeTurn, readTurn, Told, openCount, declined, begins, entered, movesWrite, movesRead, told}
 use Rattle.protocol.specs.Runs.{callOf}
 use Rattle.words.specs.declared.stamp.Stamp.{Stamp}
 use Rattle.protocol.proofs.Smallest.{bars}
@@ -50,7 +50,7 @@ pub record RIs (n : ℕ) (r : Reader) (st : Stamp) (q : Operation) : Type 0 wher
   pub op : ReaderRel n r q
 
 -- X: the cells behind the table's; L: the log as set-up left it.
-pub record Rel (X L : List ℕ) (s : State) (t l : List ℕ) (b : Book) : Type 0 where
+pub record Rel (X L : List ℕ) (s : State) (t l : List ℕ) (b : Model) : Type 0 where
   pub table-is : t ≡ b .table ++ X
   pub size-is : length (b .table) ≡ s .n * s .n + s .n
   pub used-is : s .used ≡ length (b .rows)
@@ -60,7 +60,7 @@ pub record Rel (X L : List ℕ) (s : State) (t l : List ℕ) (b : Book) : Type 0
 
 pub record CallRel (X L : List ℕ) (o : Outcome) (x : Told) : Type 0 where
   pub answer-is : o .answer ≡ x .answer
-  pub rel : Rel X L (o .state) (o .table) (o .log) (x .book)
+  pub rel : Rel X L (o .state) (o .table) (o .log) (x .model)
 
 open-w : (n : ℕ) (w : Writer) (st : Stamp) (q : Operation) → WIs n w st q → w .active ≡ isOpen q
 open-w n w st idle k = k .op
@@ -81,7 +81,7 @@ add-row L rows x h =
     let e : length (rows ++ x ∷ []) ≡ suc (length rows) = simp length-append (omega arith) in
     rw (e, drop-cons L (length rows) 0 h, set-append-seam rows (getD L (length rows) 0) (drop (suc (length rows)) L) x, append-assoc)
 
-module _ (X L : List ℕ) (s : State) (t l : List ℕ) (b : Book) (g : Good s (length t) (length l)) (R : Rel X L s t l b) (full : length L ≡ s .rows) where
+module _ (X L : List ℕ) (s : State) (t l : List ℕ) (b : Model) (g : Good s (length t) (length l)) (R : Rel X L s t l b) (full : length L ≡ s .rows) where
   abbrev n : ℕ
   n = s .n
 

@@ -22,9 +22,9 @@ use Rattle.protocol.specs.Counting.{count}
 use Rattle.protocol.specs.Answers.{numberOf}
 use Rattle.protocol.specs.State.{blank, readerAt}
 use Rattle.protocol.specs.SetUp.{Outcome, refused, freshReader, freshState, freshCells, startRow, setUpOf}
-use Rattle.protocol.specs.Reference.{Operation, idle, open-with, Book, isOpen, Told, begins, movesWrite, movesRead, Call, write, read, step, told, freshTable, freshStamp, freshBook, Kept, kept}
+use Rattle.protocol.specs.Reference.{Operation, idle, open-with, Model, isOpen, Told, begins, movesWrite, movesRead, Call, write, read, step, told, freshTable, freshStamp, freshModel, Kept, kept}
 use Rattle.protocol.specs.Runs.{callOf, Ran, runOf}
-use Rattle.protocol.specs.Whole.{bookOf, never4}
+use Rattle.protocol.specs.Whole.{modelOf, never4}
 use Rattle.protocol.proofs.Table.{fresh-length}
 use Rattle.protocol.proofs.Keep.{Good, call-stays}
 use Rattle.protocol.proofs.Refine.{Rel, call-rel}
@@ -34,10 +34,10 @@ pub record RunRel (X L : List ℕ) (s : State) (r : Ran) (k : Kept) : Type 0 whe
   pub answers-are : r .answers ≡ k .answers
   pub n-same : r .state .n ≡ s .n
   pub rows-same : r .state .rows ≡ s .rows
-  pub rel : Rel X L (r .state) (r .table) (r .log) (k .book)
+  pub rel : Rel X L (r .state) (r .table) (r .log) (k .model)
   pub good : Good (r .state) (length (r .table)) (length (r .log))
 
-run-rel : (X L : List ℕ) (cs : List Call) (s : State) (t l : List ℕ) (b : Book) → Good s (length t) (length l) → Rel X L s t l b
+run-rel : (X L : List ℕ) (cs : List Call) (s : State) (t l : List ℕ) (b : Model) → Good s (length t) (length l) → Rel X L s t l b
     → length L ≡ s .rows → RunRel X L s (runOf s t l cs) (kept (s .n) (s .rows) b cs)
 unfolding runOf kept
 run-rel X L [] s t l b g R full = record { answers-are = refl; n-same = refl; rows-same = refl; rel = R; good = g }
@@ -48,8 +48,8 @@ run-rel X L (c ∷ cs) s t l b g R full =
     let C = call-rel X L s t l b g R full c in
     let rs : o .state .rows ≡ s .rows = sym (k .good .ok .log-is) ∙ g .ok .log-is in
     let g′ : Good (o .state) (length (o .table)) (length (o .log)) = rw (k .cells-same, k .rows-same) (k .good) in
-    let z = run-rel X L cs (o .state) (o .table) (o .log) (x .book) g′ (C .rel) (full ∙ sym rs) in
-    let z′ : RunRel X L (o .state) (runOf (o .state) (o .table) (o .log) cs) (kept (s .n) (s .rows) (x .book) cs) = rw (k .n-same, rs) at z in
+    let z = run-rel X L cs (o .state) (o .table) (o .log) (x .model) g′ (C .rel) (full ∙ sym rs) in
+    let z′ : RunRel X L (o .state) (runOf (o .state) (o .table) (o .log) cs) (kept (s .n) (s .rows) (x .model) cs) = rw (k .n-same, rs) at z in
     record {
       answers-are = (λ i. C .answer-is i ∷ z′ .answers-are i);
       n-same = z′ .n-same ∙ k .n-same;
@@ -119,7 +119,7 @@ module _ (n v : ℕ) (t l : List ℕ) (n1 : 1 ≤ n) (n16 : n ≤ 16) (ct : n * 
   fresh-stamps zero h = absurd (omega arith)
   fresh-stamps (suc p) h = refl
 
-  fresh-rel : Rel (drop (n * n + n) t) l₀ s₀ t₀ l₀ (freshBook n v)
+  fresh-rel : Rel (drop (n * n + n) t) l₀ s₀ t₀ l₀ (freshModel n v)
   fresh-rel = record {
     table-is = ap (λ (c : List ℕ). c ++ drop (n * n + n) t) fresh-is;
     size-is = fresh-length n v;
@@ -133,12 +133,12 @@ module _ (n v : ℕ) (t l : List ℕ) (n1 : 1 ≤ n) (n16 : n ≤ 16) (ct : n * 
 abbrev Fine : Told → Type 0
 Fine x = not (eqb (numberOf (x .answer)) 4) ≡ true
 
-begins-fine : (n len : ℕ) (b : Book) (p kind v : ℕ) → Fine (begins n len b p kind v)
+begins-fine : (n len : ℕ) (b : Model) (p kind v : ℕ) → Fine (begins n len b p kind v)
 unfolding begins
 begins-fine n len b p kind v =
     pick-ind Fine (isOpen (b .op p)) _ _ (λ _. refl) (λ _. le-ind Fine _ len _ _ (λ _. refl) (λ _. refl))
 
-told-fine : (n len : ℕ) (b : Book) (c : Call) → Fine (told n len b c)
+told-fine : (n len : ℕ) (b : Model) (c : Call) → Fine (told n len b c)
 unfolding told
 told-fine n len b (write v) = begins-fine n len b 0 1 v
 told-fine n len b (read p) = pick-ind Fine (leb 1 p && leb p n) _ _ (λ _. begins-fine n len b p 3 0) (λ _. refl)
@@ -153,14 +153,14 @@ told-fine n len b (step p) =
     at-r idle = refl
     at-r (open-with v m cells) = refl
 
-pub kept-fine : (n len : ℕ) (b : Book) (cs : List Call) → never4 (kept n len b cs .answers) ≡ true
+pub kept-fine : (n len : ℕ) (b : Model) (cs : List Call) → never4 (kept n len b cs .answers) ≡ true
 unfolding kept
 kept-fine n len b [] = refl
-kept-fine n len b (c ∷ cs) = rw (told-fine n len b c, kept-fine n len (told n len b c .book) cs)
+kept-fine n len b (c ∷ cs) = rw (told-fine n len b c, kept-fine n len (told n len b c .model) cs)
 
 -- What an accepted set-up leads to.
 pub record FromSetUp (n v : ℕ) (t l : List ℕ) (o : Outcome) (cs : List Call) : Type 0 where
-  pub runs : RunRel (drop (n * n + n) t) (o .log) (o .state) (runOf (o .state) (o .table) (o .log) cs) (bookOf n v l cs)
+  pub runs : RunRel (drop (n * n + n) t) (o .log) (o .state) (runOf (o .state) (o .table) (o .log) cs) (modelOf n v l cs)
   pub beyond : drop (n * n + n) (o .table) ≡ drop (n * n + n) t
   pub n-is : o .state .n ≡ n
   pub rows-is : o .state .rows ≡ length l
@@ -187,7 +187,7 @@ module _ (n v : ℕ) (t l : List ℕ) (cs : List Call) where
       let l3 = leb-true 3 (length l) (left (leb 3 (length l)) (leb (length l) 4096) e3) in
       let l4 = leb-true (length l) 4096 (right (leb 3 (length l)) (leb (length l) 4096) e3) in
       record {
-        runs = run-rel (drop (n * n + n) t) (set l 0 (startRow n v)) cs (freshState n (length l)) (freshCells n v ++ drop (n * n + n) t) (set l 0 (startRow n v)) (freshBook n v)
+        runs = run-rel (drop (n * n + n) t) (set l 0 (startRow n v)) cs (freshState n (length l)) (freshCells n v ++ drop (n * n + n) t) (set l 0 (startRow n v)) (freshModel n v)
             (fresh-good n v t l n1 n16 h2 l3 l4) (fresh-rel n v t l n1 n16 h2 l3 l4) (simp length-set);
         beyond = drop-at (freshCells n v) (drop (n * n + n) t) (n * n + n) (fresh-size n v t l n1 n16 h2 l3 l4);
         n-is = refl;

@@ -21,7 +21,7 @@ use Rattle.protocol.proofs.Tickets.{bit-or, bit-same, bit-other, below-
 use Rattle.protocol.proofs.NewTicket.{barred-length}
 use Rattle.protocol.proofs.Excluded.{mask, with-or}
 use Rattle.words.specs.declared.stamp.Stamp.{Stamp}
-use Rattle.protocol.specs.Reference.{isIn, firstFree, newTicket, barred}
+use Rattle.protocol.specs.Reference.{isIn, firstFree, newTicket, excludedTickets}
 
 -- The set of the cells read.
 unfoldable pub bars : ℕ → List Cell → ℕ
@@ -56,8 +56,8 @@ one-or false false = refl
 max-assoc : (a b c : ℕ) → max (max a b) c ≡ max a (max b c)
 max-assoc a b c = omega arith
 
-pub bars-in : (st : Stamp) (t : ℕ) → t < 63 → (b : ℕ) (cs : List Cell) → bit (withTicket (withTicket (bars b cs) (st .cur)) (st .prev)) t ≡ max (bit b t) (one (isIn t (barred st cs)))
-unfolding bars barred isIn
+pub bars-in : (st : Stamp) (t : ℕ) → t < 63 → (b : ℕ) (cs : List Cell) → bit (withTicket (withTicket (bars b cs) (st .cur)) (st .prev)) t ≡ max (bit b t) (one (isIn t (excludedTickets st cs)))
+unfolding bars excludedTickets isIn
 bars-in st t h b [] = rw (with-bit (withTicket b (st .cur)) (st .prev) t h, with-bit b (st .cur) t h, one-or (eqb t (st .cur)) (eqb t (st .prev) || false), one-or (eqb t (st .prev)) false) (omega arith)
 bars-in st t h b (c ∷ cs) =
     rw (
@@ -65,9 +65,9 @@ bars-in st t h b (c ∷ cs) =
       with-bit (withTicket (withTicket b (c .stamp .prev)) (c .announced .cur)) (c .announced .prev) t h,
       with-bit (withTicket b (c .stamp .prev)) (c .announced .cur) t h,
       with-bit b (c .stamp .prev) t h,
-      one-or (eqb t (c .stamp .prev)) (eqb t (c .announced .cur) || (eqb t (c .announced .prev) || isIn t (barred st cs))),
-      one-or (eqb t (c .announced .cur)) (eqb t (c .announced .prev) || isIn t (barred st cs)),
-      one-or (eqb t (c .announced .prev)) (isIn t (barred st cs)),
+      one-or (eqb t (c .stamp .prev)) (eqb t (c .announced .cur) || (eqb t (c .announced .prev) || isIn t (excludedTickets st cs))),
+      one-or (eqb t (c .announced .cur)) (eqb t (c .announced .prev) || isIn t (excludedTickets st cs)),
+      one-or (eqb t (c .announced .prev)) (isIn t (excludedTickets st cs)),
     ) (simp max-assoc)
 
 one-true : (b : Bool) → one b ≡ 1 → b ≡ true
@@ -95,7 +95,7 @@ pub record New (b : List ℕ) (f : ℕ) : Type 0 where
   pub below : (k : ℕ) → k < f → isIn k b ≡ true
 
 pub new-ticket : (st : Stamp) (cs : List Cell) → length cs ≤ 16 → ones (withTicket (withTicket (bars 0 cs) (st .cur)) (st .prev)) ≤ 2 + 3 * length cs
-    → New (barred st cs) (smallestOut 64 (withTicket (withTicket (bars 0 cs) (st .cur)) (st .prev)))
+    → New (excludedTickets st cs) (smallestOut 64 (withTicket (withTicket (bars 0 cs) (st .cur)) (st .prev)))
 unfolding newTicket
 new-ticket st cs few h = record { is-new = sym (first-is _ f 0 _ (omega arith) (omega (arith, low, barred-length st cs)) below out); out = out; most = omega (arith, low, barred-length st cs); below = below }
   where
@@ -108,11 +108,11 @@ new-ticket st cs few h = record { is-new = sym (first-is _ f 0 _ (omega arith) (
     low : f ≤ 2 + 3 * length cs
     low = omega (arith, first-le-ones 64 S)
 
-    digit : (t : ℕ) → t < 63 → bit S t ≡ one (isIn t (barred st cs))
+    digit : (t : ℕ) → t < 63 → bit S t ≡ one (isIn t (excludedTickets st cs))
     digit t g = bars-in st t g 0 cs ∙ rw zero-div (omega arith)
 
-    out : isIn f (barred st cs) ≡ false
+    out : isIn f (excludedTickets st cs) ≡ false
     out = one-false _ (sym (digit f (omega (arith, low))) ∙ first-out 64 S (omega (arith, low)))
 
-    below : (k : ℕ) → k < f → isIn k (barred st cs) ≡ true
+    below : (k : ℕ) → k < f → isIn k (excludedTickets st cs) ≡ true
     below k g = one-true _ (sym (digit k (omega (arith, low))) ∙ below-in 64 S k g)

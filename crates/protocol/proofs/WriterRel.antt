@@ -19,7 +19,7 @@ use Rattle.protocol.specs.Tickets.{withTicket, smallestOut}
 use Rattle.protocol.specs.State.{excludedBy}
 use Rattle.protocol.specs.InRange.{WriterInRange}
 use Rattle.protocol.specs.Write.{WriteStep, writerReads, ticketOf, writerStores, writerEnds, writeStep}
-use Rattle.protocol.specs.Reference.{Operation, idle, open-with, Turn, newTicket, barred, writeTurn}
+use Rattle.protocol.specs.Reference.{Operation, idle, open-with, Turn, newTicket, excludedTickets, writeTurn}
 use Rattle.protocol.proofs.Table.{view-front, store-front}
 use Rattle.protocol.proofs.Smallest.{bars, bars-more, New, new-ticket}
 
@@ -29,7 +29,7 @@ pub record WRel (n : ℕ) (w : Writer) (st : Stamp) (v m : ℕ) (cells : List Ce
   pub value-is : w .value ≡ v
   pub length-is : m ≤ n → length cells ≡ m
   pub excluded-is : m ≤ n → w .excluded ≡ bars 0 cells
-  pub ticket-is : n < m → w .ticket ≡ newTicket (barred st cells)
+  pub ticket-is : n < m → w .ticket ≡ newTicket (excludedTickets st cells)
 
 abbrev pub WriterRel : ℕ → Writer → Stamp → Operation → Type 0
 WriterRel n w st idle = w .active ≡ false
@@ -48,16 +48,16 @@ module _ (n : ℕ) (nl : 1 ≤ n) (nh : n ≤ 16) (T X : List ℕ) (size : lengt
   m = w .moved
 
   -- the new ticket, when it is taken
-  taken : m ≡ n → New (barred st cells) (smallestOut 64 (excludedBy w))
+  taken : m ≡ n → New (excludedTickets st cells) (smallestOut 64 (excludedBy w))
   taken e =
       let h = ok .few (R .active-is) (omega arith) in
       let q : excludedBy w ≡ withTicket (withTicket (bars 0 cells) (st .cur)) (st .prev) = rw (R .excluded-is (omega arith), stamp-is) in
       rw q
       (new-ticket st cells (omega (arith, R .length-is (omega arith))) (omega (arith, ap ones q, R .length-is (omega arith))))
 
-  ticket : n ≤ m → ticketOf n w ≡ newTicket (barred st cells)
+  ticket : n ≤ m → ticketOf n w ≡ newTicket (excludedTickets st cells)
   unfolding ticketOf
-  ticket h = eq-ind (λ x. x ≡ newTicket (barred st cells)) (w .moved) n _ _ (λ e. taken e .is-new) (λ e. R .ticket-is (omega arith))
+  ticket h = eq-ind (λ x. x ≡ newTicket (excludedTickets st cells)) (w .moved) n _ _ (λ e. taken e .is-new) (λ e. R .ticket-is (omega arith))
 
   reads : m < n
       → WTurnRel n X (record { writer = writerReads n w (T ++ X); table = T ++ X })
@@ -83,7 +83,7 @@ module _ (n : ℕ) (nl : 1 ≤ n) (nh : n ≤ 16) (T X : List ℕ) (size : lengt
 
   table : (h : n ≤ m)
       → store n (T ++ X) 0 (m - n + 1) (plain (w .value) (record { cur = ticketOf n w; prev = w .stamp .cur }))
-      ≡ store n T 0 (m - n + 1) (plain v (record { cur = newTicket (barred st cells); prev = st .cur })) ++ X
+      ≡ store n T 0 (m - n + 1) (plain v (record { cur = newTicket (excludedTickets st cells); prev = st .cur })) ++ X
   table h = rw (ticket h, R .value-is, stamp-is) (store-front n T X size 0 (m - n + 1) (to-reader h) _)
 
   turn : WTurnRel n X (writeStep n w (T ++ X)) (writeTurn n T st v m cells)
@@ -126,7 +126,7 @@ module _ (n : ℕ) (nl : 1 ≤ n) (nh : n ≤ 16) (T X : List ℕ) (size : lengt
       (turn n nl nh T X size w st v cells same-moved stamp-is ok)
 
   -- A new ticket is not barred, and at most 3n + 2.
-  pub taken-is : m ≡ n → New (barred st cells) (ticketOf n w)
+  pub taken-is : m ≡ n → New (excludedTickets st cells) (ticketOf n w)
   unfolding ticketOf
   taken-is e =
       rw (pick-yes (eqb (w .moved) n) (smallestOut 64 (excludedBy w)) (w .ticket) (eq-eqb (w .moved) n (R .moved-is ∙ e)))

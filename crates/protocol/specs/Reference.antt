@@ -25,7 +25,7 @@ pub data Operation : Type 0 where
   open-with : (v m : ℕ) (cells : List Cell) → Operation
 
 -- "a fresh table; a log with row 0; the writer's stamp, at first (0,1); each reader's stamp, at first none"
-pub record Book : Type 0 where
+pub record Model : Type 0 where
   pub table : List ℕ
   pub rows : List ℕ
   pub stamp : ℕ → Stamp
@@ -51,9 +51,9 @@ newTicket b = firstFree b 0 (length b)
 
 -- "Barred are the prev, announced cur and announced prev of each, and the writer's own cur and prev. None bars nothing."
 -- A none, 63, in the list bars nothing: it is no ticket.
-unfoldable pub barred : Stamp → List Cell → List ℕ
-barred s [] = s .cur ∷ s .prev ∷ []
-barred s (c ∷ cs) = c .stamp .prev ∷ c .announced .cur ∷ c .announced .prev ∷ barred s cs
+unfoldable pub excludedTickets : Stamp → List Cell → List ℕ
+excludedTickets s [] = s .cur ∷ s .prev ∷ []
+excludedTickets s (c ∷ cs) = c .stamp .prev ∷ c .announced .cur ∷ c .announced .prev ∷ excludedTickets s cs
 
 -- what an operation's sub-step leaves: the operation, the processor's stamp, the table, and the value of the end row
 pub record Turn : Type 0 where
@@ -66,7 +66,7 @@ pub record Turn : Type 0 where
 -- "New stamp: (that ticket, old cur)", "A write ends at its sub-step 2n."
 unfoldable pub writeTurn : ℕ → List ℕ → Stamp → ℕ → ℕ → List Cell → Turn
 writeTurn n t s v m cells =
-    let new : Stamp = record { cur = newTicket (barred s cells); prev = s .cur } in
+    let new : Stamp = record { cur = newTicket (excludedTickets s cells); prev = s .cur } in
     let t′ = store n t 0 (m - n + 1) (record { value = v; stamp = new; announced = none }) in
     pick (ltb m n)
     (record { op = open-with v (m + 1) (cells ++ (view n t (m + 1) 0 ∷ [])); stamp = s; table = t; value = 0 })
@@ -162,23 +162,23 @@ readTurn n p t s m cells =
 -- a call's answer, and the book behind it
 pub record Told : Type 0 where
   pub answer : Answer
-  pub book : Book
+  pub model : Model
 
-abbrev pub openCount : ℕ → Book → ℕ
+abbrev pub openCount : ℕ → Model → ℕ
 openCount n b = one (isOpen (b .op 0)) + count n (λ i. isOpen (b .op (suc i)))
 
 -- "A refused call changes nothing."
-abbrev pub declined : Refusal → Book → Told
-declined r b = record { answer = Refused r; book = b }
+abbrev pub declined : Refusal → Model → Told
+declined r b = record { answer = Refused r; model = b }
 
 -- "A begin opens its processor with no word moved and adds its row." Of len rows, those free are len less the book's.
-unfoldable pub begins : ℕ → ℕ → Book → ℕ → ℕ → ℕ → Told
+unfoldable pub begins : ℕ → ℕ → Model → ℕ → ℕ → ℕ → Told
 begins n len b p kind v =
     pick (isOpen (b .op p)) (declined Busy b)
     (pick (leb (length (b .rows) + openCount n b + 2) len)
     (record {
       answer = Accepted;
-      book = record {
+      model = record {
         table = b .table;
         rows = b .rows ++ (packRow (record { kind = kind; processor = p; value = v }) ∷ []);
         stamp = b .stamp;
@@ -189,7 +189,7 @@ begins n len b p kind v =
 
 -- "The end row is added, a read's with its result by the rules; the write's or result's stamp becomes the processor's own; the
 -- processor is idle."
-abbrev pub entered : Book → ℕ → ℕ → Turn → Book
+abbrev pub entered : Model → ℕ → ℕ → Turn → Model
 entered b p kind x = record {
   table = x .table;
   rows = pick (isOpen (x .op)) (b .rows) (b .rows ++ (packRow (record { kind = kind; processor = p; value = x .value }) ∷ []));
@@ -199,15 +199,15 @@ entered b p kind x = record {
 
 -- "A sub-step moves that operation's next word in the book's table, by the rules above. Its number is the words moved since the
 -- begin, this one included."
-abbrev pub movesWrite : ℕ → Book → Operation → Told
+abbrev pub movesWrite : ℕ → Model → Operation → Told
 movesWrite n b idle = declined Idle b
 movesWrite n b (open-with v m cells) =
-    record { answer = Moved (m + 1); book = entered b 0 2 (writeTurn n (b .table) (b .stamp 0) v m cells) }
+    record { answer = Moved (m + 1); model = entered b 0 2 (writeTurn n (b .table) (b .stamp 0) v m cells) }
 
-abbrev pub movesRead : ℕ → Book → ℕ → Operation → Told
+abbrev pub movesRead : ℕ → Model → ℕ → Operation → Told
 movesRead n b p idle = declined Idle b
 movesRead n b p (open-with v m cells) =
-    record { answer = Moved (m + 1); book = entered b p 4 (readTurn n p (b .table) (b .stamp p) m cells) }
+    record { answer = Moved (m + 1); model = entered b p 4 (readTurn n p (b .table) (b .stamp p) m cells) }
 
 -- "A list has any number of begins of a write, begins of a read and sub-steps, in any order, with any reading and any processor
 -- number."
@@ -217,7 +217,7 @@ pub data Call : Type 0 where
   step : ℕ → Call
 
 -- "Questions 5 to 8 are asked of the book; in a list question 4 refuses nothing."
-unfoldable pub told : ℕ → ℕ → Book → Call → Told
+unfoldable pub told : ℕ → ℕ → Model → Call → Told
 told n len b (write v) = begins n len b 0 1 v
 told n len b (read p) = pick (leb 1 p && leb p n) (begins n len b p 3 0) (declined Processor b)
 told n len b (step p) =
@@ -235,8 +235,8 @@ abbrev pub freshStamp : ℕ → Stamp
 freshStamp zero = record { cur = 0; prev = 1 }
 freshStamp (suc i) = none
 
-abbrev pub freshBook : ℕ → ℕ → Book
-freshBook n v = record {
+abbrev pub freshModel : ℕ → ℕ → Model
+freshModel n v = record {
   table = freshTable n v;
   rows = packRow (record { kind = 5; processor = n; value = v }) ∷ [];
   stamp = freshStamp;
@@ -246,11 +246,11 @@ freshBook n v = record {
 -- a list of calls: the answers, and the book at its end
 pub record Kept : Type 0 where
   pub answers : List Answer
-  pub book : Book
+  pub model : Model
 
-unfoldable pub kept : ℕ → ℕ → Book → List Call → Kept
-kept n len b [] = record { answers = []; book = b }
+unfoldable pub kept : ℕ → ℕ → Model → List Call → Kept
+kept n len b [] = record { answers = []; model = b }
 kept n len b (c ∷ cs) =
     let o = told n len b c in
-    let r = kept n len (o .book) cs in
-    record { answers = o .answer ∷ r .answers; book = r .book }
+    let r = kept n len (o .model) cs in
+    record { answers = o .answer ∷ r .answers; model = r .model }

@@ -15,7 +15,7 @@ use Rattle.protocol.specs.Reference.{Call, write, read, step}
 use Rattle.protocol.specs.Runs.{runOf}
 use Rattle.history.specs.History.{historyOf, Precedes}
 use Rattle.history.specs.Linearization.{Stands, lastWrite, Orders}
-use Rattle.protocol.specs.Whole.{Whole, bookOf}
+use Rattle.protocol.specs.Whole.{Whole, modelOf}
 use Rattle.register.specs.declared.run.Made.{Made}
 
 -- A call's word has its kind in the upper half, 1 begin a write, 2 begin a read, 3 a sub-step, and its number in the lower.
@@ -79,10 +79,10 @@ module _ (n v : ℕ) (t l words places : List ℕ) (m : MadeCalls) where
   pub record WholeRun : Type 0 where
     pub made-is : m .made ≡ length (callsIn words places)
     -- "the answers, the table and the log equal those of the book"
-    pub answers-are : m .places ≡ map answerWord (bookOf n v l (callsIn words places) .answers) ++ drop (m .made) places
-    pub cells-are : take (n * n + n) (m .table) ≡ bookOf n v l (callsIn words places) .book .table
-    pub used-is : m .state .used ≡ length (bookOf n v l (callsIn words places) .book .rows)
-    pub rows-are : take (m .state .used) (m .log) ≡ bookOf n v l (callsIn words places) .book .rows
+    pub answers-are : m .places ≡ map answerWord (modelOf n v l (callsIn words places) .answers) ++ drop (m .made) places
+    pub cells-are : take (n * n + n) (m .table) ≡ modelOf n v l (callsIn words places) .model .table
+    pub used-is : m .state .used ≡ length (modelOf n v l (callsIn words places) .model .rows)
+    pub rows-are : take (m .state .used) (m .log) ≡ modelOf n v l (callsIn words places) .model .rows
     -- "every cell and row beyond is as set-up left it"
     pub cells-beyond : drop (n * n + n) (m .table) ≡ drop (n * n + n) (setUpOf n v t l .table)
     pub rows-beyond : drop (m .state .used) (m .log) ≡ drop (m .state .used) (setUpOf n v t l .log)

@@ -14,7 +14,7 @@ use Rattle.judge.specs.Answer.{answerOf, orderOf}
 use Rattle.protocol.specs.declared.Answer.{Answer}
 use Rattle.protocol.specs.Answers.{numberOf, subStepOf}
 use Rattle.protocol.specs.SetUp.{setUpOf}
-use Rattle.protocol.specs.Reference.{Call, freshBook, kept}
+use Rattle.protocol.specs.Reference.{Call, freshModel, kept}
 use Rattle.protocol.specs.Runs.{ranFrom}
 
 pub data Session : Type 0 where
@@ -56,11 +56,11 @@ asDefined n v t l calls answers cells rows =
     sameList (allTold (r .answers)) answers && (sameList (r .table) cells && sameList (r .log) rows)
 
 -- what the book gives: answers, the n²+n cells and the used rows, of which there are so many
-unfoldable pub asBooked : ℕ → ℕ → ℕ → ℕ → List Call → List ℕ → List ℕ → List ℕ → Bool
-asBooked n v len used calls answers cells rows =
-    let k = kept n len (freshBook n v) calls in
+unfoldable pub asModelled : ℕ → ℕ → ℕ → ℕ → List Call → List ℕ → List ℕ → List ℕ → Bool
+asModelled n v len used calls answers cells rows =
+    let k = kept n len (freshModel n v) calls in
     sameList (allTold (k .answers)) answers
-    && (sameList (k .book .table) (take (n * n + n) cells) && sameList (k .book .rows) (take used rows))
+    && (sameList (k .model .table) (take (n * n + n) cells) && sameList (k .model .rows) (take used rows))
 
 -- whether it comes out so, both ways where there are two
 unfoldable pub holds : Session → Bool
@@ -75,7 +75,7 @@ holds (denied n v t l number) =
 holds (run n v t l calls answers cells rows) =
     eqb (told (setUpOf n v t l .answer)) 0
     && (asDefined n v t l calls answers cells rows
-    && asBooked n v (length l) (ranFrom n v t l calls .state .used) calls answers cells rows)
+    && asModelled n v (length l) (ranFrom n v t l calls .state .used) calls answers cells rows)
 
 abbrev pub all : List Session → Bool
 all [] = true

@@ -11,14 +11,14 @@ use Rattle.numbered.proofs.Splits.{eq-or}
 use Rattle.numbered.proofs.Machine.{begun, looked, announced, second, Reader, St}
 use Rattle.numbered.proofs.Attempt.{to, r-look-inv, r-announce-inv, r-second-inv, r-cell-inv}
 use Rattle.protocol.specs.Table.{view, other}
-use Rattle.protocol.specs.Reference.{Book, Turn, nth, readTurn, entered}
+use Rattle.protocol.specs.Reference.{Model, Turn, nth, readTurn, entered}
 use Rattle.protocol.proofs.Numbered.Cells.{Low, cell-of}
 use Rattle.protocol.proofs.Numbered.Peers.{peer, other-peer, peer-ne, peer-lt, peer-first, peer-next, peer-up}
 use Rattle.protocol.proofs.Numbered.Sim.{upd-own, Trying, Among, Simulates}
 use Rattle.protocol.proofs.Numbered.Turns.{nth-old, nth-new, trying-more, to-attempt, attempt-ind}
 use Rattle.protocol.proofs.Numbered.Frames.{Go, keep, local-sim, back-sim}
 
-module _ (n : ℕ) (c val : ℕ → ℕ) (low : Low c val) (b : Book) (s : St) (me : ℕ → Reader) (i : ℕ) (hi : i < n)
+module _ (n : ℕ) (c val : ℕ → ℕ) (low : Low c val) (b : Model) (s : St) (me : ℕ → Reader) (i : ℕ) (hi : i < n)
     (z : Simulates n c val b s me) where
   abbrev pub Goes : Turn → Type 0
   Goes x = Go n c val (entered b (suc i) 4 x) s

@@ -11,7 +11,7 @@ use Rattle.words.proofs.Laws.Update.{upd-elim, upd-same, upd-other}
 use Rattle.numbered.proofs.Machine.{Phase, Reader, St, Inv}
 use Rattle.numbered.proofs.Attempt.{to}
 use Rattle.protocol.specs.Table.{view, store}
-use Rattle.protocol.specs.Reference.{Operation, idle, open-with, Book}
+use Rattle.protocol.specs.Reference.{Operation, idle, open-with, Model}
 use Rattle.protocol.proofs.Table.{view-same, view-other, size-store}
 use Rattle.protocol.proofs.Numbered.Log.{LogRel, log-keep, floor-of}
 use Rattle.protocol.proofs.Numbered.Cells.{Low, stamp-of, back-of, fits-back}
@@ -25,10 +25,10 @@ module _ (n : ℕ) (c val : ℕ → ℕ) where
   w-same s F x (open-with v m cells) h = h
 
   -- a book that some numbered state with the same newest number is behind
-  abbrev pub Go : Book → St → Type 0
+  abbrev pub Go : Model → St → Type 0
   Go b s = (t : St) × (me : ℕ → Reader) × Simulates n c val b t me × (t .K ≡ s .K)
 
-  module _ (b : Book) (s : St) (me : ℕ → Reader) (i : ℕ) (z : Simulates n c val b s me) where
+  module _ (b : Model) (s : St) (me : ℕ → Reader) (i : ℕ) (z : Simulates n c val b s me) where
     pub apart : {A : Type 0} (f : ℕ → A) (v : A) (j : ℕ) → j ≢ i → upd f (suc i) v (suc j) ≡ f (suc j)
     apart f v j ne = upd-other f (suc i) v (suc j) (omega arith)
 

@@ -10,7 +10,7 @@ use Rattle.numbered.proofs.Splits.{lt-or}
 use Rattle.numbered.proofs.Machine.{Phase, rest, begun, looked, announced, second, storing, Reader, St}
 use Rattle.numbered.proofs.Attempt.{to, r-begin-inv}
 use Rattle.protocol.specs.Calls.{rowOf}
-use Rattle.protocol.specs.Reference.{idle, open-with, Book, readTurn, entered}
+use Rattle.protocol.specs.Reference.{idle, open-with, Model, readTurn, entered}
 use Rattle.protocol.proofs.Numbered.Log.{log-r-begins}
 use Rattle.protocol.proofs.Numbered.Cells.{Low}
 use Rattle.protocol.proofs.Numbered.Sim.{ReadSim, Simulates}
@@ -19,9 +19,9 @@ use Rattle.protocol.proofs.Numbered.Attempts.{first-sim, announce-sim, 
 use Rattle.protocol.proofs.Numbered.Third.{third-sim}
 use Rattle.protocol.proofs.Numbered.Results.{store-sim}
 
-module _ (n : ℕ) (few : n ≤ 16) (c val : ℕ → ℕ) (low : Low c val) (b : Book) (s : St) (me : ℕ → Reader) (i : ℕ) (hi : i < n)
+module _ (n : ℕ) (few : n ≤ 16) (c val : ℕ → ℕ) (low : Low c val) (b : Model) (s : St) (me : ℕ → Reader) (i : ℕ) (hi : i < n)
     (z : Simulates n c val b s me) where
-  abbrev stepped : ℕ → List Cell → Book
+  abbrev stepped : ℕ → List Cell → Model
   stepped m cells = entered b (suc i) 4 (readTurn n (suc i) (b .table) (b .stamp (suc i)) m cells)
 
   pub r-step-sim : (v m : ℕ) (cells : List Cell) → b .op (suc i) ≡ open-with v m cells → Go n c val (stepped m cells) s
@@ -39,7 +39,7 @@ module _ (n : ℕ) (few : n ≤ 16) (c val : ℕ → ℕ) (low : Low c val) (b :
           next (inr h) = third-sim n c val low b s me i hi z m f sl u w k y cells g r (omega (arith, r .low))
       at (storing f p m′ k) g r = store-sim n few c val low b s me i hi z m f p m′ k cells g r
 
-  abbrev pub begun-read : Book
+  abbrev pub begun-read : Model
   begun-read = record {
     table = b .table;
     rows = b .rows ++ (rowOf 3 (suc i) 0 ∷ []);

@@ -13,7 +13,7 @@ use Rattle.numbered.proofs.Machine.{rest, storing, Reader, St}
 use Rattle.numbered.proofs.Attempt.{to}
 use Rattle.numbered.proofs.Stores.{r-put, r-done, r-store-inv, r-end-inv, r-end-order}
 use Rattle.protocol.specs.Table.{view, store, plain, other}
-use Rattle.protocol.specs.Reference.{idle, open-with, Book, Turn, shown, storesTo, resultTurn}
+use Rattle.protocol.specs.Reference.{idle, open-with, Model, Turn, shown, storesTo, resultTurn}
 use Rattle.protocol.proofs.Table.{view-same, view-other, size-store}
 use Rattle.protocol.proofs.Numbered.Log.{log-r-ends}
 use Rattle.protocol.proofs.Numbered.Cells.{Low, stamp-of, back-of, cell-of, fits-cell}
@@ -23,7 +23,7 @@ use Rattle.protocol.proofs.Numbered.Turns.{to-result}
 use Rattle.protocol.proofs.Numbered.Frames.{w-same, apart, keep, ops, back-sim}
 use Rattle.protocol.proofs.Numbered.Attempts.{Goes, turn}
 
-module _ (n : ℕ) (few : n ≤ 16) (c val : ℕ → ℕ) (low : Low c val) (b : Book) (s : St) (me : ℕ → Reader) (i : ℕ) (hi : i < n)
+module _ (n : ℕ) (few : n ≤ 16) (c val : ℕ → ℕ) (low : Low c val) (b : Model) (s : St) (me : ℕ → Reader) (i : ℕ) (hi : i < n)
     (z : Simulates n c val b s me) where
   abbrev Next : Turn → Type 0
   Next = Goes n c val low b s me i hi z

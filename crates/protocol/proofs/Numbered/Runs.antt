@@ -14,7 +14,7 @@ use Rattle.history.specs.Swept.{Source, Swept, starts}
 use Rattle.numbered.proofs.Machine.{Reader, St}
 use Rattle.numbered.proofs.Start.{fresh-st, fresh-me, start-inv}
 use Rattle.protocol.specs.Calls.{rowOf}
-use Rattle.protocol.specs.Reference.{Operation, idle, open-with, Book, isOpen, Told, begins, movesWrite, movesRead, Call, write, read, step, told, freshBook, kept}
+use Rattle.protocol.specs.Reference.{Operation, idle, open-with, Model, isOpen, Told, begins, movesWrite, movesRead, Call, write, read, step, told, freshModel, kept}
 use Rattle.protocol.proofs.Rows.{row-value}
 use Rattle.protocol.proofs.Table.{fresh-length, fresh-writer, fresh-reader}
 use Rattle.protocol.specs.Whole.{LowCall, LowCalls}
@@ -36,9 +36,9 @@ module _ (n : ℕ) (pos : 1 ≤ n) (few : n ≤ 16) (len : ℕ) (c val : ℕ →
 
   -- a numbered state behind the book, and the rest of the tickets
   abbrev After : List Taken → Told → Type 0
-  After xs x = (t : St) × (me : ℕ → Reader) × Simulates n c val (x .book) t me × Future (t .K) xs
+  After xs x = (t : St) × (me : ℕ → Reader) × Simulates n c val (x .model) t me × Future (t .K) xs
 
-  module _ (b : Book) (s : St) (me : ℕ → Reader) (xs : List Taken) (z : Simulates n c val b s me) where
+  module _ (b : Model) (s : St) (me : ℕ → Reader) (xs : List Taken) (z : Simulates n c val b s me) where
     writes : (v : ℕ) → v < 2 ^ 32 → Future (s .K) xs → After xs (begins n len b 0 1 v)
     unfolding begins
     writes v vl f =
@@ -79,18 +79,18 @@ module _ (n : ℕ) (pos : 1 ≤ n) (few : n ≤ 16) (len : ℕ) (c val : ℕ →
         le-ind (After xs) (suc i) n _ _
         (λ h. eq-ind (After xs) (suc i) 0 _ _ (λ e. absurd (omega arith)) (λ _. steps-read i h (b .op (suc i)) refl f)) (λ _. (s, me, z, f))
 
-  run-sim : (b : Book) (s : St) (me : ℕ → Reader) (xs : List Call) → LowCalls xs → Simulates n c val b s me → Future (s .K) (tickets n len b xs)
-      → (t : St) × (me′ : ℕ → Reader) × Simulates n c val (kept n len b xs .book) t me′
+  run-sim : (b : Model) (s : St) (me : ℕ → Reader) (xs : List Call) → LowCalls xs → Simulates n c val b s me → Future (s .K) (tickets n len b xs)
+      → (t : St) × (me′ : ℕ → Reader) × Simulates n c val (kept n len b xs .model) t me′
   unfolding kept tickets
   run-sim b s me [] lows z f = (s, me, z)
   run-sim b s me (x ∷ xs) lows z f =
-      let r = call-sim b s me (tickets n len (told n len b x .book) xs) z x (lows .0) f in
-      run-sim (told n len b x .book) (r .0) (r .1) xs (lows .1) (r .2) (r .3)
+      let r = call-sim b s me (tickets n len (told n len b x .model) xs) z x (lows .0) f in
+      run-sim (told n len b x .model) (r .0) (r .1) xs (lows .1) (r .2) (r .3)
 
 -- The start counts as write 1, with ticket 0 behind ticket 1.
 module _ (n len v : ℕ) (cs : List Call) (pos : 1 ≤ n) (few : n ≤ 16) (v-low : v < 2 ^ 32) (lows : LowCalls cs) where
   all : List Taken
-  all = record { ticket = 1; value = v } ∷ record { ticket = 0; value = v } ∷ tickets n len (freshBook n v) cs
+  all = record { ticket = 1; value = v } ∷ record { ticket = 0; value = v } ∷ tickets n len (freshModel n v) cs
 
   c : ℕ → ℕ
   c k = getD all k no-ticket .ticket
@@ -102,7 +102,7 @@ module _ (n len v : ℕ) (cs : List Call) (pos : 1 ≤ n) (few : n ≤ 16) (v-lo
   unfolding c val all
   low =
       let h : (k : ℕ) → (c k < 63) × (val k < 2 ^ 32) =
-      λ k. small-at all k ((omega arith, v-low), ((omega arith, v-low), tickets-low n few len (freshBook n v) cs lows refl)) in
+      λ k. small-at all k ((omega arith, v-low), ((omega arith, v-low), tickets-low n few len (freshModel n v) cs lows refl)) in
       record { ticket-low = λ k. h k .0; value-low = λ k. h k .1 }
 
   future : (l : List Taken) (K : ℕ) → ((k : ℕ) → getD all (suc K + k) no-ticket ≡ getD l k no-ticket) → Future n pos few len c val low K l
@@ -121,7 +121,7 @@ module _ (n len v : ℕ) (cs : List Call) (pos : 1 ≤ n) (few : n ≤ 16) (v-lo
   start-source (suc zero) h = record { inside = omega arith; is = refl; shows = row-value 5 n v v-low }
   start-source (suc (suc p)) h = absurd (omega arith)
 
-  fresh-sim : Simulates n c val (freshBook n v) fresh-st fresh-me
+  fresh-sim : Simulates n c val (freshModel n v) fresh-st fresh-me
   unfolding c val all
   fresh-sim = record {
     inv = start-inv n c refl refl;
@@ -146,11 +146,11 @@ module _ (n len v : ℕ) (cs : List Call) (pos : 1 ≤ n) (few : n ≤ 16) (v-lo
     };
   }
 
-  pub book-swept : (F : ℕ) × (fl : ℕ → ℕ) × (w : ℕ) × Swept (kept n len (freshBook n v) cs .book .rows) F fl w
+  pub model-swept : (F : ℕ) × (fl : ℕ → ℕ) × (w : ℕ) × Swept (kept n len (freshModel n v) cs .model .rows) F fl w
   unfolding all
-  book-swept =
-      let r = run-sim n pos few len c val low (freshBook n v) fresh-st fresh-me cs lows fresh-sim (future (tickets n len (freshBook n v) cs) 1 from) in
+  model-swept =
+      let r = run-sim n pos few len c val low (freshModel n v) fresh-st fresh-me cs lows fresh-sim (future (tickets n len (freshModel n v) cs) 1 from) in
       (_, _, _, r .2 .log-ok .swept)
     where
-      from : (k : ℕ) → getD all (suc 1 + k) no-ticket ≡ getD (tickets n len (freshBook n v) cs) k no-ticket
+      from : (k : ℕ) → getD all (suc 1 + k) no-ticket ≡ getD (tickets n len (freshModel n v) cs) k no-ticket
       from k = let e : suc 1 + k ≡ suc (suc k) = omega arith in ap (λ (j : ℕ). getD all j no-ticket) e

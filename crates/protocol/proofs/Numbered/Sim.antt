@@ -10,7 +10,7 @@ use Rattle.words.specs.Update.{upd}
 use Rattle.words.proofs.Laws.Update.{upd-elim}
 use Rattle.numbered.proofs.Machine.{Phase, rest, begun, looked, announced, second, storing, Reader, St, Inv}
 use Rattle.protocol.specs.Table.{view}
-use Rattle.protocol.specs.Reference.{Operation, idle, open-with, Book, newTicket, barred, nth, agree, Result, resultOf, shown}
+use Rattle.protocol.specs.Reference.{Operation, idle, open-with, Model, newTicket, excludedTickets, nth, agree, Result, resultOf, shown}
 use Rattle.protocol.proofs.Table.{Size}
 use Rattle.protocol.proofs.Numbered.Log.{LogRel}
 use Rattle.protocol.proofs.Numbered.Cells.{stamp-of, back-of, cell-of}
@@ -88,7 +88,7 @@ module _ (n : ℕ) (c val : ℕ → ℕ) where
   pub record Reading (D wk : ℕ) (B : List ℕ) (m : ℕ) (cells : List Cell) : Type 0 where
     pub at : m ≤ n
     pub wk-is : wk ≡ suc m
-    pub B-is : B ≡ barred (stamp-of c D) cells
+    pub B-is : B ≡ excludedTickets (stamp-of c D) cells
 
   pub record Writing (K D wk : ℕ) (w : ℕ → ℕ) (v m : ℕ) (cells : List Cell) : Type 0 where
     pub from : n ≤ m
@@ -96,7 +96,7 @@ module _ (n : ℕ) (c val : ℕ → ℕ) where
     pub ahead : K ≡ suc D
     pub wk-is : wk ≡ 0
     pub done : (i : ℕ) → i < m - n → w i ≡ K
-    pub ticket : c K ≡ newTicket (barred (stamp-of c D) cells)
+    pub ticket : c K ≡ newTicket (excludedTickets (stamp-of c D) cells)
     pub value-is : val K ≡ v
 
   abbrev pub WriteSim : St → Operation → Type 0
@@ -105,7 +105,7 @@ module _ (n : ℕ) (c val : ℕ → ℕ) where
       Reading (s .D) (s .wk) (s .B) m cells ⊎ ((n < m) × Writing (s .K) (s .D) (s .wk) (s .w) v m cells)
 
   -- W: what holds of the writer's operation
-  pub record Sim (b : Book) (s : St) (me : ℕ → Reader) (W : Operation → Type 0) : Type 0 where
+  pub record Sim (b : Model) (s : St) (me : ℕ → Reader) (W : Operation → Type 0) : Type 0 where
     pub inv : Inv n c s me
     pub size : Size n (b .table)
     pub to-reader : (i : ℕ) → i < n → view n (b .table) 0 (suc i) ≡ cell-of c val (s .w i)
@@ -117,5 +117,5 @@ module _ (n : ℕ) (c val : ℕ → ℕ) where
     pub writer : W (b .op 0)
     pub log-ok : LogRel n val (b .rows) (s .K) (s .D) (s .F) (s .wk) me (value-in (b .op 0))
 
-  abbrev pub Simulates : Book → St → (ℕ → Reader) → Type 0
+  abbrev pub Simulates : Model → St → (ℕ → Reader) → Type 0
   Simulates b s me = Sim b s me (WriteSim s)

@@ -13,7 +13,7 @@ use Rattle.words.specs.Choice.{pick}
 use Rattle.words.specs.Update.{upd}
 use Rattle.words.proofs.Laws.Choice.{pick-ind, lt-ind, le-ind, eq-ind, left}
 use Rattle.words.proofs.Laws.Update.{upd-same, upd-other}
-use Rattle.protocol.specs.Reference.{Operation, idle, open-with, Book, Turn, isOpen, newTicket, barred, writeTurn, Told, begins, movesWrite, movesRead, Call, write, read, step, told}
+use Rattle.protocol.specs.Reference.{Operation, idle, open-with, Model, Turn, isOpen, newTicket, excludedTickets, writeTurn, Told, begins, movesWrite, movesRead, Call, write, read, step, told}
 use Rattle.protocol.proofs.NewTicket.{newTicket-low, barred-length}
 use Rattle.protocol.specs.Whole.{LowCall, LowCalls}
 
@@ -40,19 +40,19 @@ small-app (x ∷ xs) ys a b = (a .0, small-app xs ys (a .1) b)
 
 module _ (n : ℕ) where
   -- A write takes its ticket at its sub-step n + 1.
-  abbrev pub takes : Book → Operation → List Taken
+  abbrev pub takes : Model → Operation → List Taken
   takes b idle = []
-  takes b (open-with v m cells) = pick (eqb m n) (record { ticket = newTicket (barred (b .stamp 0) cells); value = v } ∷ []) []
+  takes b (open-with v m cells) = pick (eqb m n) (record { ticket = newTicket (excludedTickets (b .stamp 0) cells); value = v } ∷ []) []
 
-  unfoldable pub taken : Book → Call → List Taken
+  unfoldable pub taken : Model → Call → List Taken
   taken b (write v) = []
   taken b (read p) = []
   taken b (step zero) = takes b (b .op 0)
   taken b (step (suc i)) = []
 
-  unfoldable pub tickets : ℕ → Book → List Call → List Taken
+  unfoldable pub tickets : ℕ → Model → List Call → List Taken
   tickets len b [] = []
-  tickets len b (x ∷ xs) = taken b x ++ tickets len (told n len b x .book) xs
+  tickets len b (x ∷ xs) = taken b x ++ tickets len (told n len b x .model) xs
 
 module _ (n : ℕ) (few : n ≤ 16) where
   -- The writer has read no more cells than there are.
@@ -61,9 +61,9 @@ module _ (n : ℕ) (few : n ≤ 16) where
   Lens (open-with v m cells) = (length cells ≤ m) × (length cells ≤ n) × (v < 2 ^ 32)
 
   abbrev Fine : Told → Type 0
-  Fine x = Lens (x .book .op 0)
+  Fine x = Lens (x .model .op 0)
 
-  module _ (len : ℕ) (b : Book) (h : Lens (b .op 0)) where
+  module _ (len : ℕ) (b : Model) (h : Lens (b .op 0)) where
     -- A reader's calls leave the writer alone.
     others : (p : ℕ) (q : Operation) → p ≢ 0 → Lens (upd (b .op) p q 0)
     others p q ne = rw (upd-other (b .op) p q 0 (λ e. ne (rw (← e)))) h
@@ -95,25 +95,25 @@ module _ (n : ℕ) (few : n ≤ 16) where
         at-reader ne idle = h
         at-reader ne (open-with v m cells) = others p _ ne
 
-  takes-small : (b : Book) (q : Operation) → Lens q → Small (takes n b q)
+  takes-small : (b : Model) (q : Operation) → Lens q → Small (takes n b q)
   takes-small b idle h = tt
   takes-small b (open-with v m cells) h =
       eq-ind Small m n _ _
-      (λ _. ((omega (arith, newTicket-low (barred (b .stamp 0) cells), barred-length (b .stamp 0) cells, h .1), h .2), tt)) (λ _. tt)
+      (λ _. ((omega (arith, newTicket-low (excludedTickets (b .stamp 0) cells), barred-length (b .stamp 0) cells, h .1), h .2), tt)) (λ _. tt)
 
-  taken-small : (b : Book) → Lens (b .op 0) → (x : Call) → Small (taken n b x)
+  taken-small : (b : Model) → Lens (b .op 0) → (x : Call) → Small (taken n b x)
   unfolding taken
   taken-small b h (write v) = tt
   taken-small b h (read p) = tt
   taken-small b h (step zero) = takes-small b (b .op 0) h
   taken-small b h (step (suc i)) = tt
 
-  tickets-small : (len : ℕ) (b : Book) (xs : List Call) → LowCalls xs → Lens (b .op 0) → Small (tickets n len b xs)
+  tickets-small : (len : ℕ) (b : Model) (xs : List Call) → LowCalls xs → Lens (b .op 0) → Small (tickets n len b xs)
   unfolding tickets
   tickets-small len b [] low h = tt
   tickets-small len b (x ∷ xs) low h =
       small-app (taken n b x) _ (taken-small b h x)
-      (tickets-small len (told n len b x .book) xs (low .1) (lens-told len b h x (low .0)))
+      (tickets-small len (told n len b x .model) xs (low .1) (lens-told len b h x (low .0)))
 
-  pub tickets-low : (len : ℕ) (b : Book) (xs : List Call) → LowCalls xs → b .op 0 ≡ idle → Small (tickets n len b xs)
+  pub tickets-low : (len : ℕ) (b : Model) (xs : List Call) → LowCalls xs → b .op 0 ≡ idle → Small (tickets n len b xs)
   tickets-low len b xs low e = tickets-small len b xs low (rw e tt)

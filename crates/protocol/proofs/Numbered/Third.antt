@@ -13,7 +13,7 @@ use Rattle.numbered.proofs.Machine.{Phase, begun, second, storing, Reader, St, 
 use Rattle.numbered.proofs.Attempt.{to}
 use Rattle.numbered.proofs.Third.{r-third-match-inv, r-third-none-inv, r-third-again-inv, r-third-fail-inv, here}
 use Rattle.protocol.specs.Table.{view}
-use Rattle.protocol.specs.Reference.{open-with, Book, Turn, nth, agree, Result, resultOf, shown}
+use Rattle.protocol.specs.Reference.{open-with, Model, Turn, nth, agree, Result, resultOf, shown}
 use Rattle.protocol.proofs.Numbered.Log.{floor-of}
 use Rattle.protocol.proofs.Numbered.Cells.{Low, stamp-of, value-of, cell-of, value-is, cur-same, prev-same, stamp-same, stamp-cur, prev-of, written, shown-of}
 use Rattle.protocol.proofs.Numbered.Peers.{peer, peer-ne, peer-lt, peer-first, peer-last, peer-rank}
@@ -22,7 +22,7 @@ use Rattle.protocol.proofs.Numbered.Turns.{nth-old, nth-new, first-ind,
 use Rattle.protocol.proofs.Numbered.Frames.{keep, local-sim}
 use Rattle.protocol.proofs.Numbered.Attempts.{Goes, turn}
 
-module _ (n : ℕ) (c val : ℕ → ℕ) (low : Low c val) (b : Book) (s : St) (me : ℕ → Reader) (i : ℕ) (hi : i < n)
+module _ (n : ℕ) (c val : ℕ → ℕ) (low : Low c val) (b : Model) (s : St) (me : ℕ → Reader) (i : ℕ) (hi : i < n)
     (z : Simulates n c val b s me) where
   abbrev Next : Turn → Type 0
   Next = Goes n c val low b s me i hi z

@@ -17,7 +17,7 @@ use Rattle.numbered.proofs.Machine.{Reader, St, Bars, own, cur, prv}
 use Rattle.numbered.proofs.Writer.{w-begin, w-begin-inv, w-read, w-read-inv, w-ticket, w-ticket-inv, w-store, w-store-inv, w-end, w-end-inv}
 use Rattle.protocol.specs.Calls.{rowOf}
 use Rattle.protocol.specs.Table.{view, store, plain}
-use Rattle.protocol.specs.Reference.{idle, open-with, Book, Turn, newTicket, barred, writeTurn, entered}
+use Rattle.protocol.specs.Reference.{idle, open-with, Model, Turn, newTicket, excludedTickets, writeTurn, entered}
 use Rattle.protocol.proofs.NewTicket.{newTicket-new}
 use Rattle.protocol.proofs.Table.{view-same, view-other, size-store}
 use Rattle.protocol.proofs.Numbered.Log.{log-w-begins, log-look, log-ticket, log-w-ends, floor-low}
@@ -25,8 +25,8 @@ use Rattle.protocol.proofs.Numbered.Cells.{Low, stamp-of, back-of, cell
 use Rattle.protocol.proofs.Numbered.Sim.{Reading, Writing, Sim, Simulates}
 
 -- The barred tickets grow with a cell.
-bar-old : (s : Stamp) (cs : List Cell) (x : Cell) (t : ℕ) → List·Memᴰ t (barred s cs) → List·Memᴰ t (barred s (cs ++ (x ∷ [])))
-unfolding barred
+bar-old : (s : Stamp) (cs : List Cell) (x : Cell) (t : ℕ) → List·Memᴰ t (excludedTickets s cs) → List·Memᴰ t (excludedTickets s (cs ++ (x ∷ [])))
+unfolding excludedTickets
 bar-old s [] x t h = List·Memᴰ·tail (List·Memᴰ·tail (List·Memᴰ·tail h))
 bar-old s (y ∷ cs) x t (List·Memᴰ·head e) = List·Memᴰ·head e
 bar-old s (y ∷ cs) x t (List·Memᴰ·tail (List·Memᴰ·head e)) = List·Memᴰ·tail (List·Memᴰ·head e)
@@ -37,8 +37,8 @@ bar-old s (y ∷ cs) x t (List·Memᴰ·tail (List·Memᴰ·tail (List·Memᴰ·
 abbrev Of : Cell → ℕ → Type 0
 Of x t = (t ≡ x .stamp .prev) ⊎ ((t ≡ x .announced .cur) ⊎ (t ≡ x .announced .prev))
 
-bar-new : (s : Stamp) (cs : List Cell) (x : Cell) (t : ℕ) → Of x t → List·Memᴰ t (barred s (cs ++ (x ∷ [])))
-unfolding barred
+bar-new : (s : Stamp) (cs : List Cell) (x : Cell) (t : ℕ) → Of x t → List·Memᴰ t (excludedTickets s (cs ++ (x ∷ [])))
+unfolding excludedTickets
 bar-new s [] x t (inl e) = List·Memᴰ·head e
 bar-new s [] x t (inr (inl e)) = List·Memᴰ·tail (List·Memᴰ·head e)
 bar-new s [] x t (inr (inr e)) = List·Memᴰ·tail (List·Memᴰ·tail (List·Memᴰ·head e))
@@ -57,13 +57,13 @@ no-zero : {A : Type 0} (f : ℕ → A) (q : A) (i : ℕ) → upd f 0 q (suc i) �
 no-zero f q i = upd-other f 0 q (suc i) (omega arith)
 
 module _ (n : ℕ) (pos : 1 ≤ n) (c val : ℕ → ℕ) (low : Low c val) where
-  module _ (b : Book) (s : St) (me : ℕ → Reader) where
+  module _ (b : Model) (s : St) (me : ℕ → Reader) where
     -- A write begins.
-    abbrev pub begun-write : ℕ → Book
+    abbrev pub begun-write : ℕ → Model
     begun-write v = record { table = b .table; rows = b .rows ++ (rowOf 1 0 v ∷ []); stamp = b .stamp; op = upd (b .op) 0 (open-with v 0 []) }
 
     pub w-begin-sim : (v : ℕ) → v < 2 ^ 32 → b .op 0 ≡ idle → Simulates n c val b s me → Simulates n c val (begun-write v) (w-begin n c s) me
-    unfolding barred
+    unfolding excludedTickets
     w-begin-sim v vl e z =
         let q : (s .K ≡ s .D) × (s .wk ≡ 0) = rw e at (z .writer) in
         record {
@@ -84,9 +84,9 @@ module _ (n : ℕ) (pos : 1 ≤ n) (c val : ℕ → ℕ) (low : Low c val) where
         }
 
   -- What its sub-steps leave.
-  module _ (b : Book) (v m : ℕ) (cells : List Cell) where
+  module _ (b : Model) (v m : ℕ) (cells : List Cell) where
     abbrev new : Stamp
-    new = record { cur = newTicket (barred (b .stamp 0) cells); prev = b .stamp 0 .cur }
+    new = record { cur = newTicket (excludedTickets (b .stamp 0) cells); prev = b .stamp 0 .cur }
 
     abbrev stored : List ℕ
     stored = store n (b .table) 0 (m - n + 1) (plain v new)
@@ -103,17 +103,17 @@ module _ (n : ℕ) (pos : 1 ≤ n) (c val : ℕ → ℕ) (low : Low c val) where
     abbrev ends : Turn
     ends = record { op = idle; stamp = new; table = stored; value = 0 }
 
-  module _ (b : Book) (me : ℕ → Reader) (v m : ℕ) (cells : List Cell) (e : b .op 0 ≡ open-with v m cells) where
+  module _ (b : Model) (me : ℕ → Reader) (v m : ℕ) (cells : List Cell) (e : b .op 0 ≡ open-with v m cells) where
     -- It reads a cell.
     w-look-sim : (s : St) → m < n → Simulates n c val b s me
-        → Simulates n c val (entered b 0 2 (reads b v m cells)) (w-read n c s (barred (stamp-of c (s .D)) (seen b v m cells))) me
+        → Simulates n c val (entered b 0 2 (reads b v m cells)) (w-read n c s (excludedTickets (stamp-of c (s .D)) (seen b v m cells))) me
     w-look-sim s h z = go (rw e at (z .writer))
       where
         cell-is : view n (b .table) (m + 1) 0 ≡ back-of c (me m .o) (me m .a)
         cell-is = ap (λ (k : ℕ). view n (b .table) k 0) (add-one m) ∙ z .to-writer m h
 
         go : Reading n c val (s .D) (s .wk) (s .B) m cells ⊎ ((n < m) × Writing n c val (s .K) (s .D) (s .wk) (s .w) v m cells)
-            → Simulates n c val (entered b 0 2 (reads b v m cells)) (w-read n c s (barred (stamp-of c (s .D)) (seen b v m cells))) me
+            → Simulates n c val (entered b 0 2 (reads b v m cells)) (w-read n c s (excludedTickets (stamp-of c (s .D)) (seen b v m cells))) me
         go (inr w) = absurd (omega arith)
         go (inl r) = record {
           inv = w-read-inv n c s me m _ (z .inv) (r .wk-is)
@@ -134,12 +134,12 @@ module _ (n : ℕ) (pos : 1 ≤ n) (c val : ℕ → ℕ) (low : Low c val) where
     abbrev Midway : St → Type 0
     Midway s = Sim n c val b s me (λ _. Writing n c val (s .K) (s .D) (s .wk) (s .w) v m cells)
 
-    w-ticket-sim : (s : St) → m ≡ n → c (suc (s .K)) ≡ newTicket (barred (b .stamp 0) cells) → val (suc (s .K)) ≡ v
+    w-ticket-sim : (s : St) → m ≡ n → c (suc (s .K)) ≡ newTicket (excludedTickets (b .stamp 0) cells) → val (suc (s .K)) ≡ v
         → Simulates n c val b s me → Reading n c val (s .D) (s .wk) (s .B) m cells → Midway (w-ticket n c s)
     w-ticket-sim s q et ev z r =
-        let t : c (suc (s .K)) ≡ newTicket (barred (stamp-of c (s .D)) cells) = et ∙ ap (λ (x : Stamp). newTicket (barred x cells)) (z .own-w) in
+        let t : c (suc (s .K)) ≡ newTicket (excludedTickets (stamp-of c (s .D)) cells) = et ∙ ap (λ (x : Stamp). newTicket (excludedTickets x cells)) (z .own-w) in
         record {
-          inv = w-ticket-inv n c s me (z .inv) (r .wk-is ∙ ap suc q) (rw (t, r .B-is) (newTicket-new (barred (stamp-of c (s .D)) cells)));
+          inv = w-ticket-inv n c s me (z .inv) (r .wk-is ∙ ap suc q) (rw (t, r .B-is) (newTicket-new (excludedTickets (stamp-of c (s .D)) cells)));
           size = z .size;
           to-reader = z .to-reader;
           to-writer = z .to-writer;
@@ -168,8 +168,8 @@ module _ (n : ℕ) (pos : 1 ≤ n) (c val : ℕ → ℕ) (low : Low c val) where
       new-is : new b v m cells ≡ stamp-of c (s .K)
       new-is =
           let e : b .stamp 0 .cur ≡ c (s .D) = rw (z .own-w) (stamp-cur c (s .D) (z .inv .D-pos)) in
-          let t : newTicket (barred (b .stamp 0) cells) ≡ c (suc (s .D)) =
-          ap (λ (x : Stamp). newTicket (barred x cells)) (z .own-w) ∙ sym (w .ticket) ∙ ap c (w .ahead) in
+          let t : newTicket (excludedTickets (b .stamp 0) cells) ≡ c (suc (s .D)) =
+          ap (λ (x : Stamp). newTicket (excludedTickets x cells)) (z .own-w) ∙ sym (w .ticket) ∙ ap c (w .ahead) in
           rw (w .ahead) (λ i. record { cur = t i; prev = e i })
 
       cell-is : plain v (new b v m cells) ≡ cell-of c val (s .K)
@@ -234,12 +234,12 @@ module _ (n : ℕ) (pos : 1 ≤ n) (c val : ℕ → ℕ) (low : Low c val) where
       }
 
   -- A sub-step of a write; K grows where it takes its ticket.
-  module _ (b : Book) (s : St) (me : ℕ → Reader) (v m : ℕ) (cells : List Cell) where
+  module _ (b : Model) (s : St) (me : ℕ → Reader) (v m : ℕ) (cells : List Cell) where
     abbrev Goes : Turn → Type 0
     Goes x = (t : St) × Simulates n c val (entered b 0 2 x) t me × (m ≡ n → t .K ≡ suc (s .K)) × (m ≢ n → t .K ≡ s .K)
 
     pub w-step-sim : b .op 0 ≡ open-with v m cells → Simulates n c val b s me
-        → (m ≡ n → (c (suc (s .K)) ≡ newTicket (barred (b .stamp 0) cells)) × (val (suc (s .K)) ≡ v))
+        → (m ≡ n → (c (suc (s .K)) ≡ newTicket (excludedTickets (b .stamp 0) cells)) × (val (suc (s .K)) ≡ v))
         → Goes (writeTurn n (b .table) (b .stamp 0) v m cells)
     unfolding writeTurn
     w-step-sim e z future =
