@@ -1,0 +1,15 @@
+#!/usr/bin/env bash
+# The judge called from C, against the outside model on random logs: host.sh [COUNT]. Not part of the gate.
+set -euo pipefail
+cd "$(dirname "$0")/.."
+count=${1:-2000}
+out=$(mktemp -d)
+trap 'rm -rf "$out"' EXIT
+mkdir "$out/logs"
+
+rt staticlib judge > "$out/prove.txt" || { tail "$out/prove.txt"; exit 1; }
+gcc -std=c99 -Wall -Wextra -Werror -O2 -I include examples/host.c target/staticlib/libjudge.a -o "$out/host"
+python3 tests/host_logs.py "$out/logs" "$count" > "$out/expected"
+"$out/host" "$out"/logs/*.log > "$out/given"
+cmp "$out/expected" "$out/given"
+echo "$count logs: C and the model agree ($(sort "$out/given" | uniq -c | awk '{printf "%s%s times %s", s, $1, $2; s = ", "}')); $SECONDS s"

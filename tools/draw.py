@@ -1,0 +1,95 @@
+#!/usr/bin/env python3
+"""A picture of the bench's print.
+
+    draw.py < PRINT > PICTURE.svg
+
+A lane for each processor, a bar for each operation from its begin row to its end row (to the right edge if it has none),
+its reading above the bar, and a dot at the instant that the order gives it. If there is no order, the offending read is red.
+"""
+
+import sys
+from dataclasses import dataclass
+from html import escape
+
+LANE, BAR, LEFT, TOP, STEP = 44, 20, 96, 40, 34  # pixels; STEP is the way from one row to the next
+
+
+@dataclass
+class Operation:
+    lane: int
+    begin: int
+    end: int | None = None
+    reading: str = ''
+
+
+def parse(lines):
+    """Readers, start reading, operations by begin row, order or None, offending row or None."""
+    readers = start = order = offending = None
+    operations, running = {}, {}
+    for line in lines:
+        words = line.split()
+        if words[:1] == ['readers']:
+            readers, start = int(words[1]), words[3]
+        elif words[:1] == ['order']:
+            order = [int(word) for word in words[1:]]
+        elif words[:2] == ['no', 'order']:
+            offending = int(words[2])
+        elif readers is not None and len(words) >= 2 and words[0].isdigit():
+            row, letter = int(words[0]), words[1]
+            lane = 0 if letter in 'Ww' else int(words[2])
+            if letter in 'WR':
+                running[lane] = operations[row] = Operation(lane, row, reading=words[2] if letter == 'W' else '')
+            else:
+                running[lane].end = row
+                if letter == 'r':
+                    running[lane].reading = words[3]
+    if readers is None:
+        sys.exit('draw.py: there is no listing in this print')
+    return readers, start, operations, order, offending
+
+
+def instants(order):
+    """Where each listed operation takes effect, in rows: after its begin and before its end, in the order's order."""
+    at, latest = {}, 0
+    for place, begin in enumerate(order):
+        latest = max(latest, begin)
+        at[begin] = latest + (place + 1) / (len(order) + 1)
+    return at
+
+
+def text(x, y, words, extra=''):
+    return f'<text x="{x:g}" y="{y:g}" {extra}>{escape(words)}</text>'
+
+
+def bar(operation, edge, red):
+    x = LEFT + STEP * operation.begin
+    width = LEFT + STEP * (edge if operation.end is None else operation.end) - x
+    y = TOP + LANE * operation.lane
+    fill = '#d33' if red else '#4a7ab5' if operation.lane == 0 else '#8fb58a'
+    dashed = ' stroke="#444" stroke-dasharray="4 3"' if operation.end is None else ''
+    return [f'<rect x="{x}" y="{y}" width="{width}" height="{BAR}" rx="4" fill="{fill}"{dashed}/>',
+            text(x, y - 4, operation.reading)]
+
+
+def draw(readers, start, operations, order, offending):
+    rows = 1 + max([0] + [max(o.begin, o.end or 0) for o in operations.values()])
+    width, height = LEFT + STEP * (rows + 1), TOP + LANE * (readers + 1) + 24
+    out = [f'<svg xmlns="http://www.w3.org/2000/svg" width="{width}" height="{height}" font-family="sans-serif" font-size="13">',
+           f'<rect width="{width}" height="{height}" fill="#fff"/>',
+           text(10, 22, f'start {start}' if offending is None else f'start {start}: no order, read begun at row {offending}')]
+    for lane in range(readers + 1):
+        y = TOP + LANE * lane
+        out.append(text(10, y + 15, f'reader {lane}' if lane else 'writer'))
+        out.append(f'<line x1="{LEFT}" y1="{y + 10}" x2="{width - 10}" y2="{y + 10}" stroke="#ddd"/>')
+    for operation in operations.values():
+        out += bar(operation, rows, operation.begin == offending)
+    for begin, x in instants(order or []).items():
+        y = TOP + LANE * operations[begin].lane + 10
+        out.append(f'<circle cx="{LEFT + STEP * x:g}" cy="{y}" r="5" fill="#fff" stroke="#222" stroke-width="2"/>')
+    for row in range(1, rows):
+        out.append(text(LEFT + STEP * row - 3, height - 8, str(row), 'fill="#888" font-size="10"'))
+    return '\n'.join(out + ['</svg>', ''])
+
+
+if __name__ == '__main__':
+    sys.stdout.write(draw(*parse(sys.stdin.read().splitlines())))
