@@ -1,7 +1,7 @@
 // A log as bytes.
 ghost use mathlib.Core.Path.{_≡_};
 ghost use Prim.Native.Nat.{_+_, _^_, _<_, _≤_, min};
-ghost use lib.ListN.{length, drop};
+ghost use lib.ListN.{length};
 ghost use Rattle.logbytes.specs.Bytes.{halfAt, wordAt, readInto};
 
 fn wide(x: u8) -> u64

@@ -27,7 +27,8 @@ pub struct Ran {
     pub calls: Made,
 }
 
-fn refusal_number(r: Refusal) -> u64
+// Document 01's number of a refusal.
+pub fn refusal_number(r: Refusal) -> u64
     ensures { λ k. ⌜ (k ≡ refusalNumber r) × (k ≤ 8) ⌝ }
 {
     match r {

@@ -1,0 +1,32 @@
+use Prim.Native.Nat.{_-_}
+use lib.ListN.{length}
+use borrow.Author.Needs.{needs}
+use Rattle.bench.proofs.text.print_order.Statement.{statement}
+use Rattle.bench.proofs.text.print_order.Tie as tie
+
+abbrev Inv-loop : tie.InvT-loop
+Inv-loop order i₀ t4 t5 i = Unit {0}
+
+abbrev μ-loop : tie.MeasureT-loop
+μ-loop order i₀ t4 t5 i = length order - i
+
+pub print-order-spec : {M : Type 1} → statement M
+print-order-spec =
+    tie.close
+    (tie.spec
+    Inv-loop
+    μ-loop
+    (λ c. search needs)
+    (λ c κs. search needs)
+    (λ c. search needs)
+    (λ c. search needs)
+    (λ c κs. search needs)
+    (λ c. search needs)
+    (λ c. search needs)
+    (λ c κs. search needs)
+    (λ c. search needs)
+    (λ c. search needs)
+    (λ c. search needs)
+    (λ c. search needs)
+    (λ c κs. search needs)
+    (λ c. search needs))
