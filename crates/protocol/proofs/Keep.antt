@@ -1,37 +1,33 @@
 -- A state that passed question 4 passes it again after the call.
-use Prim.Native.Nat.{ℕ, zero, suc, _+_, _-_, _*_, _/_, _%_, _^_, _≤_, _<_}
+use Prim.Native.Nat.{ℕ, _+_, _-_, _*_, _≤_, _<_}
 use mathlib.Core.Path.{_≡_, refl, sym, subst, ap, _∙_}
-use mathlib.Core.Logic.{_≢_, _⊎_, inl, inr}
-use mathlib.Core.List.{List, [], _∷_, _++_}
-use mathlib.Core.Bool.{Bool, true, false, not, _&&_, _||_}
+use mathlib.Core.Logic.{_≢_}
+use mathlib.Core.List.{List}
+use mathlib.Core.Bool.{Bool, true, false, _&&_, _||_}
 use native.Mathlib.Omega.{arith}
 use native.Mathlib.Decide.{ℕ-discrete}
 use lib.ListN.{length, getD, set, length-set}
 use lib.Seq.{getD-set-same, getD-set-other}
-use lib.Dec.{ltb, leb, eqb}
-use lib.Count.{ones}
-use borrow.Author.Tests.{ltb-true, ltb-false, leb-true, leb-false, eqb-true, eqb-false, lt-ltb, le-leb, eq-eqb}
+use lib.Dec.{leb}
+use borrow.Author.Tests.{leb-true}
 use Rattle.words.specs.Cell.{unpackCell}
-use Rattle.protocol.specs.declared.Refusal.{Refusal}
-use Rattle.protocol.specs.declared.Refusal.the-variants.{Range, Processor, Busy, Full, Idle}
 use Rattle.protocol.specs.declared.Writer.{Writer}
 use Rattle.protocol.specs.declared.Reader.{Reader}
 use Rattle.protocol.specs.declared.State.{State}
 use Rattle.words.specs.Choice.{pick}
-use Rattle.protocol.specs.Counting.{one, all, count}
-use Rattle.words.proofs.Laws.Choice.{lt-ind, le-ind, eq-ind, pick-ind, pick-yes, pick-no, left, right, both, never}
+use Rattle.protocol.specs.Counting.{one, count}
+use Rattle.words.proofs.Laws.Choice.{lt-ind, le-ind, eq-ind, pick-ind, left, right, never}
 use Rattle.protocol.proofs.Counting.{count-one}
-use Rattle.protocol.specs.Tickets.{withTicket, smallestOut}
 use Rattle.protocol.proofs.Tickets.{first-le-ones}
 use Rattle.protocol.proofs.Excluded.{ones-three, ones-own}
-use Rattle.protocol.specs.Calls.{rowOf, withWriter, withReader, writerBegins, readerBegins, beginWriteOf, beginReadOf, stepWriter, stepReader, stepOf}
-use Rattle.protocol.specs.Table.{view, store, other}
+use Rattle.protocol.specs.Calls.{withWriter, withReader, writerBegins, readerBegins, beginWriteOf, beginReadOf, stepWriter, stepReader, stepOf}
+use Rattle.protocol.specs.Table.{view}
 use Rattle.protocol.specs.InRange.{WriterInRange, StampInRange, ReaderInRange, InRange}
 use Rattle.protocol.proofs.Range.{test-range, range-test}
 use Rattle.protocol.specs.State.{blank, readerAt, openIn, excludedBy, stateOk}
-use Rattle.protocol.specs.Write.{ticketOf, writeStep, WriteStep, writerStores, writerEnds}
-use Rattle.protocol.specs.Read.{ReadStep, stampIn, looksFirst, counted, looksThird, attemptStep, resultStep, since, readStep}
-use Rattle.protocol.specs.SetUp.{Outcome, refused}
+use Rattle.protocol.specs.Write.{ticketOf, writeStep, WriteStep}
+use Rattle.protocol.specs.Read.{ReadStep, stampIn, looksThird, attemptStep, resultStep, since, readStep}
+use Rattle.protocol.specs.SetUp.{Outcome}
 use Rattle.protocol.specs.Reference.{Call, write, read, step}
 use Rattle.protocol.specs.Runs.{callOf}
 
@@ -209,8 +205,13 @@ module _ (s : State) (t l : List ℕ) (g : Good s (length t) (length l)) where
   abbrev St : Outcome → Type 0
   St = Stays s t l
 
-  same : (k : Refusal) → St (refused k s t l)
-  same k = record { n-same = refl; cells-same = refl; rows-same = refl; good = g }
+  same : (o : Outcome) → o .state ≡ s → o .table ≡ t → o .log ≡ l → St o
+  same o a b c = record {
+    n-same = ap (λ (x : State). x .n) a;
+    cells-same = ap length b;
+    rows-same = ap length c;
+    good = subst (λ (x : State). Good x (length t) (length l)) (sym a) g;
+  }
 
   opened-w : (v : ℕ) → WriterInRange (s .n) (writerBegins (s .writer) v)
   opened-w v = record {
@@ -225,10 +226,10 @@ module _ (s : State) (t l : List ℕ) (g : Good s (length t) (length l)) where
 
   write-stays : (v : ℕ) → St (beginWriteOf s t l v)
   unfolding beginWriteOf
-  write-stays v = pick-ind St (stateOk s (length t) (length l)) _ _ (λ _. pick-ind St (s .writer .active) _ _ (λ _. same Busy)
+  write-stays v = pick-ind St (stateOk s (length t) (length l)) _ _ (λ _. pick-ind St (s .writer .active) _ _ (λ _. same _ refl refl refl)
       (λ a. le-ind St (s .used + openIn s + 2) (s .rows) _ _
       (λ h. record { n-same = refl; cells-same = refl; rows-same = simp length-set; good = with-writer s _ _ g (writerBegins (s .writer) v) (s .used + 1) (opened-w v) (omega arith) (omega arith) })
-      (λ _. same Full))) (λ _. same Range)
+      (λ _. same _ refl refl refl))) (λ _. same _ refl refl refl)
 
   -- A processor's number as a reader's place.
   place-of : (p : ℕ) → (leb 1 p && leb p (s .n)) ≡ true → p - 1 < s .n
@@ -237,7 +238,7 @@ module _ (s : State) (t l : List ℕ) (g : Good s (length t) (length l)) where
   read-stays : (p : ℕ) → St (beginReadOf s t l p)
   unfolding beginReadOf
   read-stays p = pick-ind St (stateOk s (length t) (length l)) _ _ (λ _. pick-ind St (leb 1 p && leb p (s .n)) _ _
-      (λ e. pick-ind St (readerAt s (p - 1) .active) _ _ (λ _. same Busy)
+      (λ e. pick-ind St (readerAt s (p - 1) .active) _ _ (λ _. same _ refl refl refl)
       (λ a. le-ind St (s .used + openIn s + 2) (s .rows) _ _
       (λ h. record {
         n-same = refl;
@@ -245,7 +246,7 @@ module _ (s : State) (t l : List ℕ) (g : Good s (length t) (length l)) where
         rows-same = simp length-set;
         good = with-reader s _ _ g (p - 1) (readerBegins (readerAt s (p - 1))) (s .used + 1) (place-of p e) (opened-r _ (g .ok .readers-ok (p - 1) (place-of p e))) (omega arith) (omega arith);
       })
-      (λ _. same Full))) (λ _. same Processor)) (λ _. same Range)
+      (λ _. same _ refl refl refl))) (λ _. same _ refl refl refl)) (λ _. same _ refl refl refl)
 
   -- An end has a row of its own.
   end-row : (a b : Bool) → s .used + openIn s ≤ s .rows → a ≡ true → (s .used ≤ pick b (s .used) (s .used + 1)) × (pick b (s .used) (s .used + 1) + one b + openIn s ≤ s .rows + one a)
@@ -283,9 +284,9 @@ module _ (s : State) (t l : List ℕ) (g : Good s (length t) (length l)) where
   step-stays : (p : ℕ) → St (stepOf s t l p)
   unfolding stepOf
   step-stays p = pick-ind St (stateOk s (length t) (length l)) _ _ (λ _. le-ind St p (s .n) _ _
-      (λ h. eq-ind St p 0 _ _ (λ _. pick-ind St (s .writer .active) _ _ step-w-stays (λ _. same Idle))
-      (λ ne. pick-ind St (readerAt s (p - 1) .active) _ _ (step-r-stays p (omega arith) h) (λ _. same Idle)))
-      (λ _. same Processor)) (λ _. same Range)
+      (λ h. eq-ind St p 0 _ _ (λ _. pick-ind St (s .writer .active) _ _ step-w-stays (λ _. same _ refl refl refl))
+      (λ ne. pick-ind St (readerAt s (p - 1) .active) _ _ (step-r-stays p (omega arith) h) (λ _. same _ refl refl refl)))
+      (λ _. same _ refl refl refl)) (λ _. same _ refl refl refl)
 
   pub call-stays : (c : Call) → St (callOf s t l c)
   unfolding callOf

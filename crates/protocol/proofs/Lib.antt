@@ -5,6 +5,7 @@ pub mod Excluded
 pub mod NewTicket
 pub mod Smallest
 pub mod Range
+pub mod Unaltered
 pub mod Keep
 pub mod WriterRel
 pub mod ReaderRel

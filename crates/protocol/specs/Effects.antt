@@ -5,7 +5,9 @@ use mathlib.Core.List.{List}
 use lib.ListN.{getD, set}
 use Rattle.words.specs.Stamp.{none}
 use Rattle.words.specs.Index.{index, Pair}
+use Rattle.protocol.specs.declared.State.{State}
 use Rattle.protocol.specs.Table.{view}
+use Rattle.protocol.specs.SetUp.{Outcome}
 
 -- "a bus that moves one word at a time between two fixed parts": a sub-step of processor p, by what comes of the processor and of the
 -- table t, moves one word of the table, from or to another processor.
@@ -21,6 +23,12 @@ pub data OneWord (n p : ℕ) {A : Type 0} (next : List ℕ → A) (table : List 
 pub data AtMostOne (b : ℕ) (l : List ℕ) : List ℕ → Type 0 where
   as-it-was : AtMostOne b l l
   one-set : (k w : ℕ) → k < b → AtMostOne b l (set l k w)
+
+-- "A no gives its number and alters nothing.": a call on the state s, the table t and the log l, by what comes of it
+pub record Unaltered (s : State) (t l : List ℕ) (o : Outcome) : Type 0 where
+  pub state-same : o .state ≡ s
+  pub table-same : o .table ≡ t
+  pub log-same : o .log ≡ l
 
 -- "Cells to the writer have reading 0; in all other cells the announced fields are always none."
 pub record CellsKept (n : ℕ) (t : List ℕ) : Type 0 where

@@ -55,6 +55,10 @@ unfoldable pub excludedTickets : Stamp → List Cell → List ℕ
 excludedTickets s [] = s .cur ∷ s .prev ∷ []
 excludedTickets s (c ∷ cs) = c .stamp .prev ∷ c .announced .cur ∷ c .announced .prev ∷ excludedTickets s cs
 
+-- "New stamp: (that ticket, old cur)."
+abbrev pub newStamp : Stamp → List Cell → Stamp
+newStamp s cells = record { cur = newTicket (excludedTickets s cells); prev = s .cur }
+
 -- what an operation's sub-step leaves: the operation, the processor's stamp, the table, and the value of the end row
 pub record Turn : Type 0 where
   pub op : Operation
@@ -63,15 +67,14 @@ pub record Turn : Type 0 where
   pub value : ℕ
 
 -- "Sub-steps 1..n read the readers' cells to the writer", "Sub-steps n+1..2n store v with the new stamp to readers 1..n",
--- "New stamp: (that ticket, old cur)", "A write ends at its sub-step 2n."
+-- "A write ends at its sub-step 2n."
 unfoldable pub writeTurn : ℕ → List ℕ → Stamp → ℕ → ℕ → List Cell → Turn
 writeTurn n t s v m cells =
-    let new : Stamp = record { cur = newTicket (excludedTickets s cells); prev = s .cur } in
-    let t′ = store n t 0 (m - n + 1) (record { value = v; stamp = new; announced = none }) in
+    let t′ = store n t 0 (m - n + 1) (record { value = v; stamp = newStamp s cells; announced = none }) in
     pick (ltb m n)
     (record { op = open-with v (m + 1) (cells ++ (view n t (m + 1) 0 ∷ [])); stamp = s; table = t; value = 0 })
     (pick (ltb (m + 1) (2 * n)) (record { op = open-with v (m + 1) cells; stamp = s; table = t′; value = 0 })
-    (record { op = idle; stamp = new; table = t′; value = 0 }))
+    (record { op = idle; stamp = newStamp s cells; table = t′; value = 0 }))
 
 -- a cell that shows nothing
 abbrev pub void : Cell
@@ -110,9 +113,13 @@ resultOf n cells a =
     pick (agree n cells a) (record { value = found .value; stamp = found .stamp })
     (record { value = nth cells a .value; stamp = none })
 
--- the first attempt is over, and its looks were not equal
+-- "Otherwise, on the first attempt, a second attempt": the first is over, and its looks were not equal
 abbrev pub failed : ℕ → ℕ → List Cell → Bool
 failed n m cells = leb (n + 3) m && not (agree n cells 0)
+
+-- "store that stamp as announced in the own cell to the writer, beside the reader's own stamp"
+abbrev pub announcement : Stamp → Cell → Cell
+announcement s look = record { value = 0; stamp = s; announced = look .stamp }
 
 -- a sub-step of reader p that reads the cell from q, or stores one to q
 abbrev pub readsFrom : ℕ → ℕ → List ℕ → Stamp → ℕ → List Cell → ℕ → Turn
@@ -123,12 +130,12 @@ abbrev pub storesTo : ℕ → ℕ → List ℕ → Stamp → ℕ → List Cell �
 storesTo n p t s m cells q c = record { op = open-with 0 (m + 1) cells; stamp = s; table = store n t p q c; value = 0 }
 
 -- sub-step l, from 0, of the attempt whose cells stand from place a on: "read the writer's cell (first look); store that stamp as
--- announced in the own cell to the writer, beside the reader's own stamp; read the writer's cell (second look); read the other
--- readers' cells to i, in rising order; read the writer's cell (third look)"
+-- announced; read the writer's cell (second look); read the other readers' cells to i, in rising order; read the writer's cell (third
+-- look)"
 unfoldable pub attemptTurn : ℕ → ℕ → List ℕ → Stamp → ℕ → List Cell → ℕ → ℕ → Turn
 attemptTurn n p t s m cells l a =
     pick (eqb l 0) (readsFrom n p t s m cells 0)
-    (pick (eqb l 1) (storesTo n p t s m cells 0 (record { value = 0; stamp = s; announced = nth cells a .stamp }))
+    (pick (eqb l 1) (storesTo n p t s m cells 0 (announcement s (nth cells a)))
     (pick (eqb l 2) (readsFrom n p t s m cells 0)
     (pick (ltb l (n + 2)) (readsFrom n p t s m cells (other p (l - 3))) (readsFrom n p t s m cells 0))))
 

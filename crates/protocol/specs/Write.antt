@@ -3,6 +3,7 @@ use Prim.Native.Nat.{ℕ, _+_, _-_, _*_}
 use mathlib.Core.List.{List}
 use mathlib.Core.Bool.{true, false}
 use lib.Dec.{ltb, eqb}
+use Rattle.words.specs.declared.stamp.Stamp.{Stamp}
 use Rattle.words.specs.Choice.{pick}
 use Rattle.protocol.specs.declared.Writer.{Writer}
 use Rattle.protocol.specs.Table.{view, store, plain}
@@ -28,6 +29,10 @@ writerReads n w t = record {
 unfoldable pub ticketOf : ℕ → Writer → ℕ
 ticketOf n w = pick (eqb (w .moved) n) (smallestOut 64 (excludedBy w)) (w .ticket)
 
+-- "New stamp: (that ticket, old cur)."
+abbrev pub newStamp : ℕ → Writer → Stamp
+newStamp n w = record { cur = ticketOf n w; prev = w .stamp .cur }
+
 abbrev pub writerStores : ℕ → Writer → Writer
 writerStores n w = record {
   active = true;
@@ -38,7 +43,6 @@ writerStores n w = record {
   stamp = w .stamp;
 }
 
--- "New stamp: (that ticket, old cur)."
 abbrev pub writerEnds : ℕ → Writer → Writer
 writerEnds n w = record {
   active = false;
@@ -46,7 +50,7 @@ writerEnds n w = record {
   value = w .value;
   excluded = w .excluded;
   ticket = ticketOf n w;
-  stamp = record { cur = ticketOf n w; prev = w .stamp .cur };
+  stamp = newStamp n w;
 }
 
 -- "Sub-steps n+1..2n store v with the new stamp to readers 1..n."
@@ -55,5 +59,5 @@ writeStep n w t =
     pick (ltb (w .moved) n) (record { writer = writerReads n w t; table = t })
     (record {
       writer = pick (ltb (w .moved + 1) (2 * n)) (writerStores n w) (writerEnds n w);
-      table = store n t 0 (w .moved - n + 1) (plain (w .value) (record { cur = ticketOf n w; prev = w .stamp .cur }));
+      table = store n t 0 (w .moved - n + 1) (plain (w .value) (newStamp n w));
     })

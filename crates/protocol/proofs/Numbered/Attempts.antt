@@ -1,6 +1,6 @@
 -- An attempt's sub-steps in the book, but for its last, are the numbered machine's.
 use Prim.Native.Nat.{ℕ, suc, _+_, _-_, _<_}
-use mathlib.Core.Path.{_≡_, refl, _∙_, sym, ap, subst}
+use mathlib.Core.Path.{_≡_, refl, _∙_, sym, ap, ap₂, subst}
 use mathlib.Core.Logic.{_≢_, _⊎_, inl, inr}
 use mathlib.Core.List.{List, [], _∷_, _++_}
 use native.Mathlib.Omega.{arith}
@@ -11,8 +11,8 @@ use Rattle.numbered.proofs.Splits.{eq-or}
 use Rattle.numbered.proofs.Machine.{begun, looked, announced, second, Reader, St}
 use Rattle.numbered.proofs.Attempt.{to, r-look-inv, r-announce-inv, r-second-inv, r-cell-inv}
 use Rattle.protocol.specs.Table.{view, other}
-use Rattle.protocol.specs.Reference.{Model, Turn, nth, readTurn, entered}
-use Rattle.protocol.proofs.Numbered.Cells.{Low, cell-of}
+use Rattle.protocol.specs.Reference.{Model, Turn, nth, announcement, readTurn, entered}
+use Rattle.protocol.proofs.Numbered.Cells.{Low, back-of, cell-of}
 use Rattle.protocol.proofs.Numbered.Peers.{peer, other-peer, peer-ne, peer-lt, peer-first, peer-next, peer-up}
 use Rattle.protocol.proofs.Numbered.Sim.{upd-own, Trying, Among, Simulates}
 use Rattle.protocol.proofs.Numbered.Turns.{nth-old, nth-new, trying-more, to-attempt, attempt-ind}
@@ -41,6 +41,10 @@ module _ (n : ℕ) (c val : ℕ → ℕ) (low : Low c val) (b : Model) (s : St) 
       ))
       (λ h. absurd (omega arith)) (λ h. absurd (omega arith)) (λ h _. absurd (omega arith)) (λ h _. absurd (omega arith)))
 
+  -- The cell that announces number u, beside the reader's own.
+  said : (u : ℕ) {x : Cell} → x ≡ cell-of c val u → announcement (b .stamp (suc i)) x ≡ back-of c (me i .o) u
+  said u eu = ap₂ announcement (z .own-r i hi) eu ∙ refl
+
   -- It announces.
   pub announce-sim : (m f sl u : ℕ) (cells : List Cell) → me i .ph ≡ looked f sl u → (t : Trying n cells m sl 1 1) → nth cells (t .R) ≡ cell-of c val u
       → Goes (turn m cells)
@@ -52,7 +56,7 @@ module _ (n : ℕ) (c val : ℕ → ℕ) (low : Low c val) (b : Model) (s : St) 
         upd me i (record { o = me i .o; a = u; ph = announced f sl u }),
         back-sim n c val b s me i z hi low (record { o = me i .o; a = u; ph = announced f sl u }) (s .F) _ _ _ _ (r-announce-inv n c s me i (z .inv) f sl u e)
             (record { M = t .M; R = t .R; attempt = t .attempt; m-is = omega (arith, t .m-is); len = t .len }, eu)
-            (rw (z .own-r i hi, eu)) (upd-own (b .stamp) (suc i) 0) (upd-own (b .stamp) (suc i) (suc i) ∙ z .own-r i hi)
+            (said u eu) (upd-own (b .stamp) (suc i) 0) (upd-own (b .stamp) (suc i) (suc i) ∙ z .own-r i hi)
             (λ j _. upd-own (b .stamp) (suc i) (suc j)) (keep n c val b s me i z _ (rw e)),
         refl,
       ))

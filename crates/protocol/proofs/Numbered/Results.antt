@@ -1,18 +1,21 @@
 -- A read's stores of its result in the book, and its end, are the numbered machine's.
 use Prim.Native.Nat.{ℕ, suc, _+_, _≤_, _<_, max}
-use mathlib.Core.Path.{_≡_, refl, sym, _∙_, ap}
-use mathlib.Core.Logic.{_≢_, inl, inr}
+use mathlib.Core.Path.{_≡_, refl, sym, _∙_, ap, subst}
+use mathlib.Core.Logic.{_≢_, _⊎_, inl, inr}
 use mathlib.Core.List.{List}
 use native.Mathlib.Omega.{arith}
+use lib.Dec.{ltb}
+use borrow.Author.Tests.{lt-ltb, le-ltb}
 use Rattle.words.specs.declared.cell.Cell.{Cell}
 use Rattle.words.specs.Index.{Pair}
 use Rattle.words.specs.Update.{upd}
-use Rattle.words.proofs.Laws.Choice.{lt-ind}
+use Rattle.words.proofs.Laws.Choice.{pick-yes, pick-no}
 use Rattle.words.proofs.Laws.Update.{upd-elim, upd-same, upd-other}
+use Rattle.numbered.proofs.Splits.{lt-or}
 use Rattle.numbered.proofs.Machine.{rest, storing, Reader, St}
 use Rattle.numbered.proofs.Attempt.{to}
 use Rattle.numbered.proofs.Stores.{r-put, r-done, r-store-inv, r-end-inv, r-end-order}
-use Rattle.protocol.specs.Table.{view, store, plain, other}
+use Rattle.protocol.specs.Table.{view, store, plain}
 use Rattle.protocol.specs.Reference.{idle, open-with, Model, Turn, shown, storesTo, resultTurn}
 use Rattle.protocol.proofs.Table.{view-same, view-other, size-store}
 use Rattle.protocol.proofs.Numbered.Log.{log-r-ends}
@@ -34,16 +37,13 @@ module _ (n : ℕ) (few : n ≤ 16) (c val : ℕ → ℕ) (low : Low c val) (b :
 
     -- the reader stored to, and the table behind it
     abbrev dest : ℕ
-    dest = other (suc i) q
+    dest = suc (peer i q)
 
     abbrev stored : List ℕ
     stored = store n (b .table) (suc i) dest (shown (t .x))
 
-    dest-is : dest ≡ suc (peer i q)
-    dest-is = other-peer i q
-
     there : suc q < n → Pair n (suc i) dest
-    there more = omega (arith, peer-lt i q n more, peer-ne i q, dest-is)
+    there more = omega (arith, peer-lt i q n more, peer-ne i q)
 
     old : suc q < n → (a d : ℕ) → Pair n a d → (a ≢ suc i) → view n stored a d ≡ view n (b .table) a d
     old more a d v ne = view-other n (suc i) dest (b .table) _ (there more) a d v (inl (λ h. ne (rw h)))
@@ -52,9 +52,9 @@ module _ (n : ℕ) (few : n ≤ 16) (c val : ℕ → ℕ) (low : Low c val) (b :
     tab-between more j l hj hl ne =
         upd-elim (λ j y. j < n → l ≢ j → view n stored (suc j) (suc l) ≡ cell-of c val (y l)) (s .x) i (upd (s .x i) k p)
         (λ _ ne. upd-elim (λ l y. l < n → l ≢ i → view n stored (suc i) (suc l) ≡ cell-of c val y) (s .x i) k p
-        (λ _ _. ap (λ (j : ℕ). view n stored (suc i) (suc j)) (t .k-is) ∙ ap (λ (j : ℕ). view n stored (suc i) j) (sym dest-is)
+        (λ _ _. ap (λ (j : ℕ). view n stored (suc i) (suc j)) (t .k-is)
         ∙ view-same n (suc i) dest (b .table) _ (there more) (rw (t .shown-is) (fits-cell c val low p)) (z .size) ∙ t .shown-is)
-        (λ l nk hl ne. view-other n (suc i) dest (b .table) _ (there more) (suc i) (suc l) (omega arith) (inr (omega (arith, dest-is, t .k-is))) ∙ z .between i l hi hl ne) l hl ne)
+        (λ l nk hl ne. view-other n (suc i) dest (b .table) _ (there more) (suc i) (suc l) (omega arith) (inr (omega (arith, t .k-is))) ∙ z .between i l hi hl ne) l hl ne)
         (λ j ni hj ne. old more (suc j) (suc l) (omega arith) (omega arith) ∙ z .between j l hj hl ne) j hj ne
 
     put-sim : suc q < n → Next (storesTo n (suc i) (b .table) (b .stamp (suc i)) m cells dest (shown (t .x)))
@@ -90,10 +90,13 @@ module _ (n : ℕ) (few : n ≤ 16) (c val : ℕ → ℕ) (low : Low c val) (b :
     )
       where
         back : (j : ℕ) → j < n → view n stored (suc j) 0 ≡ back-of c (me j .o) (me j .a)
-        back j h = view-other n (suc i) dest (b .table) _ (there more) (suc j) 0 (omega arith) (inr (omega (arith, dest-is))) ∙ z .to-writer j h
+        back j h = view-other n (suc i) dest (b .table) _ (there more) (suc j) 0 (omega arith) (inr (omega arith)) ∙ z .to-writer j h
 
-    end-sim : n ≡ suc q
-        → Next (record { op = idle; stamp = t .x .stamp; table = store n (b .table) (suc i) 0 (plain 0 (t .x .stamp)); value = t .x .value })
+    -- the turn at the read's end
+    abbrev ended : Turn
+    ended = record { op = idle; stamp = t .x .stamp; table = store n (b .table) (suc i) 0 (plain 0 (t .x .stamp)); value = t .x .value }
+
+    end-sim : n ≡ suc q → Next ended
     end-sim last =
         let e′ : me i .ph ≡ storing f p m′ n = e ∙ ap (λ (k : ℕ). storing f p m′ k) (t .k-is ∙ peer-last i q n hi last) in
         let fm = r-end-order n c s me i hi (z .inv) f p m′ e′ in (
@@ -107,8 +110,25 @@ module _ (n : ℕ) (few : n ≤ 16) (c val : ℕ → ℕ) (low : Low c val) (b :
           refl,
         )
 
-    pub store-sim : Next (turn n c val low b s me i hi z m cells)
+    -- The result goes to the other readers in rising order, and last of all to the writer.
+    abbrev at-q : Turn
+    at-q = resultTurn n (suc i) (b .table) (b .stamp (suc i)) m cells q (t .x)
+
+    put-is : suc q < n → at-q ≡ storesTo n (suc i) (b .table) (b .stamp (suc i)) m cells dest (shown (t .x))
     unfolding resultTurn
-    store-sim =
-        to-result n (suc i) _ _ m cells Next (t .M) q (t .x) (t .m-is) (t .out) (t .low)
-        (lt-ind Next (q + 1) n _ _ (λ h. put-sim (omega arith)) (λ h. end-sim (omega (arith, t .low))))
+    put-is more =
+        pick-yes (ltb (q + 1) n) _ _ (lt-ltb (q + 1) n (omega arith))
+        ∙ ap (λ (j : ℕ). storesTo n (suc i) (b .table) (b .stamp (suc i)) m cells j (shown (t .x))) (other-peer i q)
+
+    end-is : n ≡ suc q → at-q ≡ ended
+    unfolding resultTurn
+    end-is last = pick-no (ltb (q + 1) n) _ _ (le-ltb (q + 1) n (omega arith))
+
+    pub store-sim : Next (turn n c val low b s me i hi z m cells)
+    store-sim = to-result n (suc i) _ _ m cells Next (t .M) q (t .x) (t .m-is) (t .out) (t .low) (go (lt-or (suc q) n))
+      where
+        go : (suc q < n) ⊎ (n ≤ suc q) → Next at-q
+        go (inl more) = subst Next (sym (put-is more)) (put-sim more)
+        go (inr last) =
+            let g : n ≡ suc q = omega (arith, t .low) in
+            subst Next (sym (end-is g)) (end-sim g)

@@ -9,6 +9,7 @@ use lib.ListN.{length}
 use Rattle.words.specs.declared.cell.Cell.{Cell}
 use Rattle.words.specs.Stamp.{none}
 use Rattle.words.specs.Update.{upd}
+use Rattle.words.proofs.Laws.Choice.{pick-no}
 use Rattle.numbered.proofs.Machine.{Phase, begun, second, storing, Reader, St, Inv, Second}
 use Rattle.numbered.proofs.Attempt.{to}
 use Rattle.numbered.proofs.Third.{r-third-match-inv, r-third-none-inv, r-third-again-inv, r-third-fail-inv, here}
@@ -18,7 +19,7 @@ use Rattle.protocol.proofs.Numbered.Log.{floor-of}
 use Rattle.protocol.proofs.Numbered.Cells.{Low, stamp-of, value-of, cell-of, value-is, cur-same, prev-same, stamp-same, stamp-cur, prev-of, written, shown-of}
 use Rattle.protocol.proofs.Numbered.Peers.{peer, peer-ne, peer-lt, peer-first, peer-last, peer-rank}
 use Rattle.protocol.proofs.Numbered.Sim.{upd-own, Attempt, Trying, Among, Outcome, ReadSim, Simulates}
-use Rattle.protocol.proofs.Numbered.Turns.{nth-old, nth-new, first-ind, agree-same, agree-not, found, result-found, result-failed, trying-more, to-attempt, attempt-ind}
+use Rattle.protocol.proofs.Numbered.Turns.{nth-old, nth-new, first-ind, agree-same, agree-not, found, result-found, trying-more, to-attempt, attempt-ind}
 use Rattle.protocol.proofs.Numbered.Frames.{keep, local-sim}
 use Rattle.protocol.proofs.Numbered.Attempts.{Goes, turn}
 
@@ -136,6 +137,7 @@ module _ (n : ℕ) (c val : ℕ → ℕ) (low : Low c val) (b : Model) (s : St) 
           agree-not n cells R df (stamp-is _ u u-is ∙ p ∙ sym (stamp-is _ w z-is)) (stamp-is _ u u-is ∙ p ∙ q ∙ sym (stamp-is _ (s .w i) t-is))
 
       after-differ : Attempt n cells sl M R → After
+      unfolding resultOf
       after-differ (inl at) = (
         begun f 0,
         r-third-again-inv n c s me i (z .inv) f sl u w (peer i 0) y (peer-first i) e differ (at .0),
@@ -166,8 +168,9 @@ module _ (n : ℕ) (c val : ℕ → ℕ) (low : Low c val) (b : Model) (s : St) 
         refl,
       )
         where
+          -- the value is the first look's, of number u, and the stamp none
           is : resultOf n cells R ≡ record { value = value-of c val u; stamp = none }
-          is = result-failed n cells R df ∙ ap (λ (k : Cell). record { value = k .value; stamp = none }) u-is
+          is = pick-no (agree n cells R) _ _ df ∙ ap (λ (k : Cell). record { value = k .value; stamp = none }) u-is
 
     after : (t : Bool) → agree n cells R ≡ t → After
     after true g = after-same g (good g)

@@ -1,23 +1,23 @@
 -- Which turn a read's next sub-step is, and what the cells read say.
 use Prim.Native.Nat.{ℕ, zero, suc, _+_, _-_, _≤_, _<_}
-use mathlib.Core.Path.{_≡_, _∙_, sym, subst, subst₂}
+use mathlib.Core.Path.{_≡_, _∙_, sym, ap, subst, subst₂}
 use mathlib.Core.Logic.{_≢_, inl, inr}
-use mathlib.Core.Bool.{Bool, true, false}
+use mathlib.Core.Bool.{Bool, true, false, not}
 use mathlib.Core.List.{List, [], _∷_, _++_}
 use native.Mathlib.Decide.{ℕ-discrete}
 use native.Mathlib.Omega.{arith}
 use lib.ListN.{length, length-append, List·getD-append}
 use lib.Seq.{getD-at}
-use lib.Dec.{ltb}
+use lib.Dec.{ltb, leb}
 use borrow.Author.Tests.{lt-ltb, le-ltb, le-leb, lt-leb}
 use Rattle.words.specs.declared.stamp.Stamp.{Stamp}
 use Rattle.words.specs.declared.cell.Cell.{Cell}
 use Rattle.words.specs.Choice.{pick}
-use Rattle.words.specs.Stamp.{none, same}
+use Rattle.words.specs.Stamp.{same}
 use Rattle.words.proofs.Laws.Choice.{pick-yes, pick-no, lt-ind, eq-ind, never, left, right, both}
 use Rattle.words.proofs.Laws.Stamp.{same-equal, equal-same}
 use Rattle.protocol.specs.Table.{other}
-use Rattle.protocol.specs.Reference.{Turn, void, nth, firstWith, agree, Result, resultOf, failed, readsFrom, storesTo, attemptTurn, resultTurn, readTurn}
+use Rattle.protocol.specs.Reference.{Turn, void, nth, firstWith, agree, Result, resultOf, failed, announcement, readsFrom, storesTo, attemptTurn, resultTurn, readTurn}
 use Rattle.protocol.proofs.Numbered.Sim.{Attempt, Trying, Outcome}
 
 -- Cells in a list that grows at its end.
@@ -63,10 +63,6 @@ module _ (n : ℕ) (cells : List Cell) (a : ℕ) where
   unfolding resultOf
   result-found e = pick-yes (agree n cells a) _ _ e
 
-  pub result-failed : agree n cells a ≡ false → resultOf n cells a ≡ record { value = nth cells a .value; stamp = none }
-  unfolding resultOf
-  result-failed e = pick-no (agree n cells a) _ _ e
-
 module _ (n : ℕ) where
   pub attempt-more : (cells : List Cell) (x : Cell) (sl M R : ℕ) → R ≤ length cells → Attempt n cells sl M R → Attempt n (cells ++ (x ∷ [])) sl M R
   attempt-more cells x sl M R h (inl a) = inl a
@@ -110,11 +106,11 @@ module _ (n : ℕ) where
             go false (rw (lt-leb (n + 3) m g)) (omega (arith, y .m-is, a .1)) (a .2)
         at (inr a) =
             let g : n + 3 ≤ m = omega (arith, y .m-is, a .1) in
-            go true (rw (le-leb (n + 3) m g, a .3)) (omega (arith, y .m-is, a .1)) (a .2)
+            go true (both (leb (n + 3) m) (not (agree n cells 0)) (le-leb (n + 3) m g) (ap not (a .3))) (omega (arith, y .m-is, a .1)) (a .2)
 
     -- The sub-steps of an attempt.
     pub attempt-ind : (l a : ℕ) → (l ≡ 0 → Q (readsFrom n p t s m cells 0))
-        → (l ≡ 1 → Q (storesTo n p t s m cells 0 (record { value = 0; stamp = s; announced = nth cells a .stamp })))
+        → (l ≡ 1 → Q (storesTo n p t s m cells 0 (announcement s (nth cells a))))
         → (l ≡ 2 → Q (readsFrom n p t s m cells 0))
         → (3 ≤ l → l < n + 2 → Q (readsFrom n p t s m cells (other p (l - 3))))
         → (3 ≤ l → n + 2 ≤ l → Q (readsFrom n p t s m cells 0)) → Q (attemptTurn n p t s m cells l a)
@@ -138,4 +134,4 @@ module _ (n : ℕ) where
             go false (rw (le-leb (n + 3) m g, a .0)) (omega (arith, a .1)) (omega (arith, a .1)) (a .2)
         at (inr a) =
             let g : n + 3 ≤ m = omega (arith, a .1) in
-            go true (rw (le-leb (n + 3) m g, a .0)) (omega (arith, a .1)) (omega (arith, a .1)) (a .2)
+            go true (both (leb (n + 3) m) (not (agree n cells 0)) (le-leb (n + 3) m g) (ap not (a .0))) (omega (arith, a .1)) (omega (arith, a .1)) (a .2)

@@ -1,5 +1,5 @@
 -- A write's sub-steps in the book are the numbered machine's.
-use Prim.Native.Nat.{ℕ, zero, suc, _+_, _-_, _*_, _^_, _≤_, _<_}
+use Prim.Native.Nat.{ℕ, zero, suc, _+_, _-_, _*_, _^_, _≤_, _<_, pred}
 use mathlib.Core.Path.{_≡_, refl, _∙_, sym, ap}
 use mathlib.Core.Logic.{_≢_, _⊎_, inl, inr}
 use mathlib.Core.List.{List, [], _∷_, _++_, List·Memᴰ, List·Memᴰ·head, List·Memᴰ·tail}
@@ -17,7 +17,7 @@ use Rattle.numbered.proofs.Machine.{Reader, St, Bars, own, cur, prv}
 use Rattle.numbered.proofs.Writer.{w-begin, w-begin-inv, w-read, w-read-inv, w-ticket, w-ticket-inv, w-store, w-store-inv, w-end, w-end-inv}
 use Rattle.protocol.specs.Calls.{rowOf}
 use Rattle.protocol.specs.Table.{view, store, plain}
-use Rattle.protocol.specs.Reference.{idle, open-with, Model, Turn, newTicket, excludedTickets, writeTurn, entered}
+use Rattle.protocol.specs.Reference.{idle, open-with, Model, Turn, newTicket, excludedTickets, newStamp, writeTurn, entered}
 use Rattle.protocol.proofs.NewTicket.{newTicket-new}
 use Rattle.protocol.proofs.Table.{view-same, view-other, size-store}
 use Rattle.protocol.proofs.Numbered.Log.{log-w-begins, log-look, log-ticket, log-w-ends, floor-low}
@@ -53,6 +53,11 @@ bars-of n c o zero t (cur g e) = absurd (omega arith)
 bars-of n c o (suc a) t (prv _ e) = inr (inr e)
 bars-of n c o zero t (prv g e) = absurd (omega arith)
 
+-- The writer's own cur and prev are barred from the begin on.
+own-tickets : (c : ℕ → ℕ) (d : ℕ) → 1 ≤ d → excludedTickets (stamp-of c d) [] ≡ c d ∷ c (pred d) ∷ []
+unfolding excludedTickets
+own-tickets c d h i = stamp-cur c d h i ∷ stamp-prev c d h i ∷ []
+
 no-zero : {A : Type 0} (f : ℕ → A) (q : A) (i : ℕ) → upd f 0 q (suc i) ≡ f (suc i)
 no-zero f q i = upd-other f 0 q (suc i) (omega arith)
 
@@ -63,7 +68,6 @@ module _ (n : ℕ) (pos : 1 ≤ n) (c val : ℕ → ℕ) (low : Low c val) where
     begun-write v = record { table = b .table; rows = b .rows ++ (rowOf 1 0 v ∷ []); stamp = b .stamp; op = upd (b .op) 0 (open-with v 0 []) }
 
     pub w-begin-sim : (v : ℕ) → v < 2 ^ 32 → b .op 0 ≡ idle → Simulates n c val b s me → Simulates n c val (begun-write v) (w-begin n c s) me
-    unfolding excludedTickets
     w-begin-sim v vl e z =
         let q : (s .K ≡ s .D) × (s .wk ≡ 0) = rw e at (z .writer) in
         record {
@@ -78,7 +82,7 @@ module _ (n : ℕ) (pos : 1 ≤ n) (c val : ℕ → ℕ) (low : Low c val) where
           writer = rw (upd-same (b .op) 0) (inl (record {
             at = omega arith;
             wk-is = refl;
-            B-is = rw (q .0, stamp-cur c (s .D) (z .inv .D-pos), stamp-prev c (s .D) (z .inv .D-pos));
+            B-is = rw (q .0) (sym (own-tickets c (s .D) (z .inv .D-pos)));
           }));
           log-ok = rw (upd-same (b .op) 0) (log-w-begins n val _ _ _ _ _ me _ (z .log-ok) (q .0) v vl);
         }
@@ -86,7 +90,7 @@ module _ (n : ℕ) (pos : 1 ≤ n) (c val : ℕ → ℕ) (low : Low c val) where
   -- What its sub-steps leave.
   module _ (b : Model) (v m : ℕ) (cells : List Cell) where
     abbrev new : Stamp
-    new = record { cur = newTicket (excludedTickets (b .stamp 0) cells); prev = b .stamp 0 .cur }
+    new = newStamp (b .stamp 0) cells
 
     abbrev stored : List ℕ
     stored = store n (b .table) 0 (m - n + 1) (plain v new)
