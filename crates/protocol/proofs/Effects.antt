@@ -27,7 +27,7 @@ use Rattle.protocol.specs.State.{readerAt, openIn, sizesOk, stateOk}
 use Rattle.protocol.specs.InRange.{InRange, WriterInRange, ReaderInRange}
 use Rattle.protocol.specs.SetUp.{Outcome, refused, startRow, noState, setUpOf}
 use Rattle.protocol.specs.Write.{WriteStep, writerReads, writeStep}
-use Rattle.protocol.specs.Read.{ReadStep, valueIn, looksFirst, looksAgain, looksAtOther, looksThird, attemptStep, resultStep, since, readStep}
+use Rattle.protocol.specs.Read.{ReadStep, valueIn, counted, looksFirst, looksAgain, looksAtOther, looksThird, attemptStep, resultStep, since, readStep}
 use Rattle.protocol.specs.Calls.{rowOf, beginWriteOf, beginReadOf, stepWriter, stepReader, stepOf}
 use Rattle.protocol.specs.Reference.{Call, write, read, step}
 use Rattle.protocol.specs.Runs.{callOf, runOf}
@@ -78,14 +78,14 @@ module _ (n p : ℕ) (nl : 1 ≤ n) (p1 : 1 ≤ p) (pn : p ≤ n) (r : Reader) w
   unfolding attemptStep
   attempt-word l h =
       word-by n p (λ (q : ReadStep). q .reader) (λ (q : ReadStep). q .table) (eqb l 0) _ _
-      (λ _. reads 0 (omega arith) (λ _. refl) (λ t t′ q. ap (looksFirst r) q)) λ n0.
+      (λ _. reads 0 (omega arith) (λ _. refl) (λ t t′ q. ap (looksFirst (counted r)) q)) λ n0.
       word-by n p (λ (q : ReadStep). q .reader) (λ (q : ReadStep). q .table) (eqb l 1) _ _
       (λ _. stores 0 _ (omega arith) (λ _. refl) (λ _ _. refl)) λ n1.
       word-by n p (λ (q : ReadStep). q .reader) (λ (q : ReadStep). q .table) (eqb l 2) _ _
-      (λ _. reads 0 (omega arith) (λ _. refl) (λ t t′ q. ap (looksAgain r) q)) λ n2.
+      (λ _. reads 0 (omega arith) (λ _. refl) (λ t t′ q. ap (looksAgain (counted r)) q)) λ n2.
       word-by n p (λ (q : ReadStep). q .reader) (λ (q : ReadStep). q .table) (ltb l (n + 2)) _ _
-      (λ e. reads (other p (l - 3)) (from-other (l - 3) (within n0 n1 n2 (ltb-true l (n + 2) e))) (λ _. refl) (λ t t′ q. ap (looksAtOther r) q))
-      (λ _. reads 0 (omega arith) (λ _. refl) (λ t t′ q. ap (looksThird r) q))
+      (λ e. reads (other p (l - 3)) (from-other (l - 3) (within n0 n1 n2 (ltb-true l (n + 2) e))) (λ _. refl) (λ t t′ q. ap (looksAtOther (counted r)) q))
+      (λ _. reads 0 (omega arith) (λ _. refl) (λ t t′ q. ap (looksThird (counted r)) q))
     where
       within : eqb l 0 ≡ false → eqb l 1 ≡ false → eqb l 2 ≡ false → l < n + 2 → l - 3 + 1 < n
       within n0 n1 n2 g = omega (arith, eqb-false l 0 n0, eqb-false l 1 n1, eqb-false l 2 n2)

@@ -26,7 +26,7 @@ use Rattle.protocol.specs.InRange.{WriterInRange, StampInRange, ReaderIn
 use Rattle.protocol.proofs.Range.{test-range, range-test}
 use Rattle.protocol.specs.State.{blank, readerAt, openIn, excludedBy, stateOk}
 use Rattle.protocol.specs.Write.{ticketOf, writeStep, WriteStep}
-use Rattle.protocol.specs.Read.{ReadStep, stampIn, looksThird, attemptStep, resultStep, since, readStep}
+use Rattle.protocol.specs.Read.{ReadStep, stampIn, counted, looksThird, attemptStep, resultStep, since, readStep}
 use Rattle.protocol.specs.SetUp.{Outcome}
 use Rattle.protocol.specs.Reference.{Call, write, read, step}
 use Rattle.protocol.specs.Runs.{callOf}
@@ -83,7 +83,7 @@ module _ (n p : ℕ) (r : Reader) (t : List ℕ) (k : ReaderInRange n r) (a : r 
     f2 : r .second ≡ true → (n + 3 ≤ r .moved + 1) × (r .moved + 1 ≤ 3 * n + 5)
     f2 g = omega (arith, in-2 g .0, in-2 g .1)
 
-    third-low : (c : ℕ) → l ≡ n + 2 → ReaderInRange n (looksThird r c)
+    third-low : (c : ℕ) → l ≡ n + 2 → ReaderInRange n (looksThird (counted r) c)
     third-low c g = record { stamp-ok = k .stamp-ok; in-first = λ _ x. f1 (no-or (r .second) _ x); in-second = λ _ x. at (r .second) refl }
       where
         no-or : (b c : Bool) → (b || c) ≡ false → b ≡ false

@@ -1,7 +1,7 @@
 -- Question 4's test is its meaning.
-use Prim.Native.Nat.{ℕ, _+_, _*_, _≤_, _<_}
+use Prim.Native.Nat.{ℕ, _+_, _*_}
 use mathlib.Core.Path.{_≡_, refl, sym, _∙_}
-use mathlib.Core.Bool.{Bool, true, false, _&&_}
+use mathlib.Core.Bool.{Bool, true, _&&_}
 use native.Mathlib.Omega.{arith}
 use lib.Dec.{ltb, leb, eqb}
 use lib.Count.{ones}
@@ -12,7 +12,8 @@ use Rattle.words.proofs.Laws.Choice.{pick-ind, pick-yes, pick-no, left, right, 
 use Rattle.protocol.specs.declared.Writer.{Writer}
 use Rattle.protocol.specs.declared.Reader.{Reader}
 use Rattle.protocol.specs.declared.State.{State}
-use Rattle.protocol.specs.State.{readerAt, openIn, sizesOk, stampOk, excludedBy, writerOk, spanOk, readerOk, stateOk}
+use Rattle.protocol.specs.State.{readerAt, openIn, sizesOk, excludedBy, ticketsOk, openWriteOk, writerOk, readerOk, stateOk}
+use Rattle.words.specs.Stamp.{stampOk}
 use Rattle.protocol.specs.InRange.{StampInRange, WriterInRange, ReaderInRange, InRange}
 use Rattle.protocol.proofs.Counting.{all-at, all-make}
 
@@ -26,18 +27,12 @@ in-stamp : (s : Stamp) → StampInRange s → stampOk s ≡ true
 in-stamp s k = both (ltb (s .cur) 64) _ (lt-ltb _ _ (k .cur-low)) (lt-ltb _ _ (k .prev-low))
 
 module _ (n : ℕ) (w : Writer) where
-  abbrev tickets : Bool
-  tickets = pick (leb (w .moved) n) (leb (ones (excludedBy w)) (2 + 3 * w .moved)) (ltb (w .ticket) 64)
-
-  abbrev opened : Bool
-  opened = pick (w .active) (ltb (w .moved) (2 * n) && tickets) true
-
   writer-in : writerOk n w ≡ true → WriterInRange n w
   unfolding writerOk
   writer-in e =
-      let o : opened ≡ true = right (stampOk (w .stamp)) _ e in
-      let g : w .active ≡ true → (ltb (w .moved) (2 * n) && tickets) ≡ true = λ a. sym (pick-yes (w .active) (ltb (w .moved) (2 * n) && tickets) true a) ∙ o in
-      let t : w .active ≡ true → tickets ≡ true = λ a. right (ltb (w .moved) (2 * n)) _ (g a) in
+      let o : openWriteOk n w ≡ true = right (stampOk (w .stamp)) _ e in
+      let g : w .active ≡ true → (ltb (w .moved) (2 * n) && ticketsOk n w) ≡ true = λ a. sym (pick-yes (w .active) (ltb (w .moved) (2 * n) && ticketsOk n w) true a) ∙ o in
+      let t : w .active ≡ true → ticketsOk n w ≡ true = λ a. right (ltb (w .moved) (2 * n)) _ (g a) in
       record {
         stamp-ok = stamp-in (w .stamp) (left (stampOk (w .stamp)) _ e);
         moved-low = λ a. ltb-true _ _ (left (ltb (w .moved) (2 * n)) _ (g a));

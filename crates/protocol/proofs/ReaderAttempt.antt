@@ -133,9 +133,9 @@ module _ (n : ℕ) (nl : 1 ≤ n) (r : Reader) (m : ℕ) (cells : List Cell) (R 
     agree-more : R .late ≡ true → agree n (cells ++ (unpackCell w ∷ [])) 0 ≡ agree n cells 0
     agree-more e = agree-old n cells c 0 (omega (arith, first-cells e))
 
-    pub rel-first : R .l ≡ 0 → RRel n (looksFirst r w) (m + 1) (cells ++ (unpackCell w ∷ []))
+    pub rel-first : R .l ≡ 0 → RRel n (looksFirst (counted r) w) (m + 1) (cells ++ (unpackCell w ∷ []))
     rel-first z =
-        on (looksFirst r w) (cells ++ (c ∷ [])) (omega arith) refl refl refl agree-more
+        on (looksFirst (counted r) w) (cells ++ (c ∷ [])) (omega arith) refl refl refl agree-more
         (let q : length cells ≡ a = omega (arith, Tr .length-is, reads-low (R .l) (omega arith)) in
         record {
           length-is = omega (arith, more, q, reads-low (R .l + 1) (omega arith));
@@ -144,9 +144,9 @@ module _ (n : ℕ) (nl : 1 ≤ n) (r : Reader) (m : ℕ) (cells : List Cell) (R 
           found-is = λ _ d. sym (first-none (cells ++ (c ∷ [])) _ (unpackCell d) (a + 2) (R .l + 1 - 3) (omega arith));
         })
 
-    pub rel-again : R .l ≡ 2 → RRel n (looksAgain r w) (m + 1) (cells ++ (unpackCell w ∷ []))
+    pub rel-again : R .l ≡ 2 → RRel n (looksAgain (counted r) w) (m + 1) (cells ++ (unpackCell w ∷ []))
     rel-again z =
-        on (looksAgain r w) (cells ++ (c ∷ [])) (omega arith) refl refl refl agree-more
+        on (looksAgain (counted r) w) (cells ++ (c ∷ [])) (omega arith) refl refl refl agree-more
         (let q : length cells ≡ a + 1 = omega (arith, Tr .length-is, reads-is (R .l) (omega arith)) in
         let o : nth (cells ++ (c ∷ [])) a ≡ nth cells a = nth-old cells c a (omega arith) in
         record {
@@ -169,9 +169,9 @@ module _ (n : ℕ) (nl : 1 ≤ n) (r : Reader) (m : ℕ) (cells : List Cell) (R 
     pick-cell true x y = refl
     pick-cell false x y = refl
 
-    pub rel-other : 3 ≤ R .l → R .l < n + 2 → RRel n (looksAtOther r w) (m + 1) (cells ++ (unpackCell w ∷ []))
+    pub rel-other : 3 ≤ R .l → R .l < n + 2 → RRel n (looksAtOther (counted r) w) (m + 1) (cells ++ (unpackCell w ∷ []))
     rel-other z y =
-        on (looksAtOther r w) (cells ++ (c ∷ [])) (omega arith) refl refl refl agree-more
+        on (looksAtOther (counted r) w) (cells ++ (c ∷ [])) (omega arith) refl refl refl agree-more
         (let q : length cells ≡ a + (R .l - 1) = omega (arith, Tr .length-is, reads-is (R .l) (omega arith)) in
         let o : nth (cells ++ (c ∷ [])) a ≡ nth cells a = nth-old cells c a (omega arith) in
         let x : nth (cells ++ (c ∷ [])) (a + 2 + (R .l - 3)) ≡ c = nth-new cells c (a + 2 + (R .l - 3)) (omega arith) in
@@ -225,7 +225,7 @@ module _ (n : ℕ) (nl : 1 ≤ n) (r : Reader) (m : ℕ) (cells : List Cell) (R 
     equal-is =
         rw (Tr .agree-is (omega arith), look-cur (omega arith), look-prev (omega arith), new, old, nth-old cells (unpackCell w) (a + 1) (omega (arith, long)))
 
-    result-is : resultIn (looksThird r w .result) ≡ resultOf n cells′ a
+    result-is : resultIn (looksThird (counted r) w .result) ≡ resultOf n cells′ a
     unfolding resultOf
     result-is =
         rw equal-is
@@ -242,7 +242,7 @@ module _ (n : ℕ) (nl : 1 ≤ n) (r : Reader) (m : ℕ) (cells : List Cell) (R 
         rw new (ap (λ (x : Cell). record { value = x .value; stamp = x .stamp }) f))
         (λ _. none-in (r .look) ∙ rw old (ap (λ (x : Cell). record { value = x .value; stamp = none }) (Tr .look-is (omega arith)))))
 
-    pub rel-third : RRel n (looksThird r w) (m + 1) cells′
+    pub rel-third : RRel n (looksThird (counted r) w) (m + 1) cells′
     rel-third = by (R .late) refl
       where
         -- the first attempt
@@ -255,10 +255,10 @@ module _ (n : ℕ) (nl : 1 ≤ n) (r : Reader) (m : ℕ) (cells : List Cell) (R 
         equal0 : R .late ≡ false → (r .agree && same (stampIn (r .look)) (stampIn w)) ≡ agree n cells′ 0
         equal0 e = equal-is ∙ ap (agree n cells′) (fresh e)
 
-        second′ : (b : Bool) → R .late ≡ false → agree n cells′ 0 ≡ b → looksThird r w .second ≡ not b
+        second′ : (b : Bool) → R .late ≡ false → agree n cells′ 0 ≡ b → looksThird (counted r) w .second ≡ not b
         second′ b e f = rw (equal0 e, f, R .second-is, e)
 
-        by-equal : R .late ≡ false → (b : Bool) → agree n cells′ 0 ≡ b → RRel n (looksThird r w) (m + 1) cells′
+        by-equal : R .late ≡ false → (b : Bool) → agree n cells′ 0 ≡ b → RRel n (looksThird (counted r) w) (m + 1) cells′
         by-equal e true f = record {
           late = false;
           l = R .l + 1;
@@ -287,7 +287,7 @@ module _ (n : ℕ) (nl : 1 ≤ n) (r : Reader) (m : ℕ) (cells : List Cell) (R 
           storing = λ q. absurd (omega arith);
         }
 
-        by : (b : Bool) → R .late ≡ b → RRel n (looksThird r w) (m + 1) cells′
+        by : (b : Bool) → R .late ≡ b → RRel n (looksThird (counted r) w) (m + 1) cells′
         by true e = record {
           late = R .late;
           l = R .l + 1;

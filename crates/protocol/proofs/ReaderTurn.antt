@@ -44,9 +44,9 @@ module _ (n p : ℕ) (nl : 1 ≤ n) (p1 : 1 ≤ p) (pn : p ≤ n) (T X : List �
   to-writer = omega arith
 
   -- A word read, in the longer table.
-  looks : (f : Reader → ℕ → Reader) (q : ℕ) → wordAt n (T ++ X) q p ≡ wordAt n T q p → ((w : ℕ) → f r w .stamp ≡ r .stamp)
-      → ((w : ℕ) → RRel n (f r w) (m + 1) (cells ++ (unpackCell w ∷ [])))
-      → P (record { reader = f r (wordAt n (T ++ X) q p); table = T ++ X }) (readsFrom n p T st m cells q)
+  looks : (f : Reader → ℕ → Reader) (q : ℕ) → wordAt n (T ++ X) q p ≡ wordAt n T q p → ((w : ℕ) → f (counted r) w .stamp ≡ r .stamp)
+      → ((w : ℕ) → RRel n (f (counted r) w) (m + 1) (cells ++ (unpackCell w ∷ [])))
+      → P (record { reader = f (counted r) (wordAt n (T ++ X) q p); table = T ++ X }) (readsFrom n p T st m cells q)
   looks f q e es k = rw e (record { table-is = refl; size-is = size; stamp-is = es _ ∙ stamp-is; op = k (wordAt n T q p); value-is = λ e. never e })
 
   stores-word : (q : ℕ) (c d : Cell) → c ≡ d → Pair n p q → RRel n (counted r) (m + 1) cells

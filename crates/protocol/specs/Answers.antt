@@ -1,6 +1,5 @@
 -- Document 01's numbers of the answers.
 use Prim.Native.Nat.{ℕ}
-use mathlib.Core.Bool.{Bool, true, false}
 use Rattle.protocol.specs.declared.Refusal.{Refusal}
 use Rattle.protocol.specs.declared.Refusal.the-variants.{Readers, Cells, Rows, Range, Processor, Busy, Full, Idle}
 use Rattle.protocol.specs.declared.Answer.{Answer}

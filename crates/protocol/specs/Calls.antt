@@ -9,7 +9,6 @@ use Rattle.words.specs.Row.{packRow}
 use Rattle.protocol.specs.declared.Writer.{Writer}
 use Rattle.protocol.specs.declared.Reader.{Reader}
 use Rattle.protocol.specs.declared.State.{State}
-use Rattle.protocol.specs.declared.Answer.{Answer}
 use Rattle.protocol.specs.declared.Answer.the-variants.{Accepted, Moved}
 use Rattle.protocol.specs.declared.Refusal.the-variants.{Range, Processor, Busy, Full, Idle}
 use Rattle.protocol.specs.State.{readerAt, openIn, stateOk}

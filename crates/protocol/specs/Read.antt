@@ -1,7 +1,7 @@
 -- A sub-step of a read: "A read by reader i".
 use Prim.Native.Nat.{ℕ, _+_, _-_}
 use mathlib.Core.List.{List}
-use mathlib.Core.Bool.{Bool, true, false, not, _&&_, _||_}
+use mathlib.Core.Bool.{true, false, not, _&&_, _||_}
 use lib.Dec.{ltb, eqb}
 use lib.ListN.{getD}
 use Rattle.words.specs.declared.stamp.Stamp.{Stamp}
@@ -24,20 +24,7 @@ stampIn w = unpackCell w .stamp
 abbrev pub valueIn : ℕ → ℕ
 valueIn w = unpackCell w .value
 
--- "read the writer's cell (first look)"
-abbrev pub looksFirst : Reader → ℕ → Reader
-looksFirst r w = record {
-  active = true;
-  second = r .second;
-  moved = r .moved + 1;
-  stamp = r .stamp;
-  look = w;
-  agree = true;
-  found = false;
-  result = r .result;
-}
-
--- a word stored within the read
+-- a word more moved by the read
 abbrev pub counted : Reader → Reader
 counted r = record {
   active = true;
@@ -50,12 +37,25 @@ counted r = record {
   result = r .result;
 }
 
+-- "read the writer's cell (first look)"
+abbrev pub looksFirst : Reader → ℕ → Reader
+looksFirst r w = record {
+  active = r .active;
+  second = r .second;
+  moved = r .moved;
+  stamp = r .stamp;
+  look = w;
+  agree = true;
+  found = false;
+  result = r .result;
+}
+
 -- "read the writer's cell (second look)"
 abbrev pub looksAgain : Reader → ℕ → Reader
 looksAgain r w = record {
-  active = true;
+  active = r .active;
   second = r .second;
-  moved = r .moved + 1;
+  moved = r .moved;
   stamp = r .stamp;
   look = r .look;
   agree = same (stampIn (r .look)) (stampIn w);
@@ -67,9 +67,9 @@ looksAgain r w = record {
 -- first look's cur, and used only if the looks are equal.
 abbrev pub looksAtOther : Reader → ℕ → Reader
 looksAtOther r w = record {
-  active = true;
+  active = r .active;
   second = r .second;
-  moved = r .moved + 1;
+  moved = r .moved;
   stamp = r .stamp;
   look = r .look;
   agree = r .agree;
@@ -84,9 +84,9 @@ abbrev pub looksThird : Reader → ℕ → Reader
 looksThird r w =
     let equal = r .agree && same (stampIn (r .look)) (stampIn w) in
     record {
-      active = true;
+      active = r .active;
       second = r .second || not equal;
-      moved = r .moved + 1;
+      moved = r .moved;
       stamp = r .stamp;
       look = r .look;
       agree = r .agree;
@@ -94,11 +94,12 @@ looksThird r w =
       result = pick equal (pick (r .found) (r .result) w) (packCell (plain (valueIn (r .look)) none));
     }
 
+-- "The read ends there": the result's stamp is the reader's own
 abbrev pub readEnds : Reader → Reader
 readEnds r = record {
   active = false;
   second = r .second;
-  moved = r .moved + 1;
+  moved = r .moved;
   stamp = stampIn (r .result);
   look = r .look;
   agree = r .agree;
@@ -121,17 +122,17 @@ wordAt n t q p = getD t (index n q p) 0
 -- sub-step l, from 0, of an attempt of reader p
 unfoldable pub attemptStep : ℕ → ℕ → ℕ → Reader → List ℕ → ReadStep
 attemptStep n p l r t =
-    pick (eqb l 0) (record { reader = looksFirst r (wordAt n t 0 p); table = t })
+    pick (eqb l 0) (record { reader = looksFirst (counted r) (wordAt n t 0 p); table = t })
     (pick (eqb l 1) (record { reader = counted r; table = store n t p 0 (announcing (r .stamp) (r .look)) })
-    (pick (eqb l 2) (record { reader = looksAgain r (wordAt n t 0 p); table = t })
-    (pick (ltb l (n + 2)) (record { reader = looksAtOther r (wordAt n t (other p (l - 3)) p); table = t })
-    (record { reader = looksThird r (wordAt n t 0 p); table = t }))))
+    (pick (eqb l 2) (record { reader = looksAgain (counted r) (wordAt n t 0 p); table = t })
+    (pick (ltb l (n + 2)) (record { reader = looksAtOther (counted r) (wordAt n t (other p (l - 3)) p); table = t })
+    (record { reader = looksThird (counted r) (wordAt n t 0 p); table = t }))))
 
 -- store k, from 0: "and last of all to the writer reading 0, the result's stamp, announced none. The read ends there."
 unfoldable pub resultStep : ℕ → ℕ → ℕ → Reader → List ℕ → ReadStep
 resultStep n p k r t =
     pick (ltb (k + 1) n) (record { reader = counted r; table = store n t p (other p k) (showing (r .result)) })
-    (record { reader = readEnds r; table = store n t p 0 (plain 0 (stampIn (r .result))) })
+    (record { reader = readEnds (counted r); table = store n t p 0 (plain 0 (stampIn (r .result))) })
 
 -- the words moved in the attempt
 abbrev pub since : ℕ → Reader → ℕ

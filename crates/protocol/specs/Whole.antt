@@ -11,12 +11,12 @@ use Rattle.words.specs.Choice.{pick}
 use Rattle.history.specs.WellFormed.{wellFormed}
 use Rattle.history.specs.Linearization.{Orders}
 use Rattle.protocol.specs.declared.Answer.{Answer}
-use Rattle.protocol.specs.declared.Answer.the-variants.{Accepted, Moved}
+use Rattle.protocol.specs.declared.Answer.the-variants.{Moved}
 use Rattle.protocol.specs.Answers.{numberOf}
 use Rattle.protocol.specs.Table.{view}
 use Rattle.protocol.specs.State.{stateOk}
 use Rattle.protocol.specs.SetUp.{Outcome, setUpOf}
-use Rattle.protocol.specs.Reference.{Operation, open-with, Model, isOpen, isIn, excludedTickets, failed, Told, told, Kept, kept, freshModel, Call, write, read, step}
+use Rattle.protocol.specs.Reference.{open-with, Model, isOpen, isIn, excludedTickets, failed, told, Kept, kept, freshModel, Call, write, read, step}
 use Rattle.protocol.specs.Runs.{callOf, Ran, ranFrom}
 
 -- "any reading": a 32-bit number

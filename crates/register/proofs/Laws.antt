@@ -3,7 +3,7 @@ use Prim.Native.Nat.{ℕ, suc, _+_, _-_, _*_, _≤_, _<_}
 use mathlib.Core.Path.{_≡_, refl, sym, ap, _∙_}
 use mathlib.Core.Logic.{_≢_}
 use mathlib.Core.List.{List, [], _∷_, _++_, append-nil, append-assoc}
-use mathlib.Core.Bool.{Bool, true, false, _&&_, _||_}
+use mathlib.Core.Bool.{Bool, true, false}
 use native.Mathlib.Omega.{arith}
 use native.Mathlib.Nat.{mul-le-mul-left}
 use native.Mathlib.Numerals.{add-one}
@@ -13,13 +13,11 @@ use lib.Dec.{ltb, leb, eqb}
 use borrow.Author.Tests.{lt-ltb, le-ltb, eq-eqb, ne-eqb, leb-true}
 use Rattle.words.proofs.Laws.Choice.{lt-ind, left, right}
 use Rattle.protocol.specs.State.{sizesOk}
-use Rattle.words.specs.Stamp.{none, same, isNone}
-use Rattle.words.specs.Cell.{packCell}
 use Rattle.words.specs.Index.{rowStart, inRow, index, Pair}
 use Rattle.words.proofs.Laws.Index.{index-low}
 use Rattle.protocol.specs.declared.Reader.{Reader}
 use Rattle.protocol.specs.Table.{store, plain, other}
-use Rattle.protocol.specs.Read.{stampIn, valueIn, looksFirst, counted, looksAgain, looksAtOther, looksThird, readEnds, announcing, showing, wordAt, attemptStep, resultStep, since, readStep}
+use Rattle.protocol.specs.Read.{stampIn, looksFirst, counted, looksAgain, looksAtOther, looksThird, readEnds, announcing, showing, wordAt, attemptStep, resultStep, since, readStep}
 use Rattle.protocol.specs.declared.Writer.{Writer}
 use Rattle.protocol.specs.Write.{writerReads, ticketOf, writeStep}
 use Rattle.words.specs.Choice.{pick}
@@ -44,70 +42,9 @@ set-part l at k v h =
     let z : drop (length l - at) (drop at l) ≡ [] = drop-of-length-le (drop at l) el in
     rw (e, z, append-nil, ← drop-set-add at l k v, ← take-set-le at l (at + k) v (omega arith)) (take-append-drop at (set l (at + k) v))
 
--- A reader behind a look at another reader's cell, or at the writer's for the third time.
-abbrev withFound : Reader → ℕ → Reader
-withFound r w = record {
-  active = true;
-  second = r .second;
-  moved = r .moved + 1;
-  stamp = r .stamp;
-  look = r .look;
-  agree = r .agree;
-  found = true;
-  result = w;
-}
-
-abbrev withResult : Reader → Bool → ℕ → Reader
-withResult r late w = record {
-  active = true;
-  second = late;
-  moved = r .moved + 1;
-  stamp = r .stamp;
-  look = r .look;
-  agree = r .agree;
-  found = r .found;
-  result = w;
-}
-
-or-false : (b : Bool) → (b || false) ≡ b
-or-false true = refl
-or-false false = refl
-
-or-true : (b : Bool) → (b || true) ≡ true
-or-true true = refl
-or-true false = refl
-
-module _ (r : Reader) (w : ℕ) where
-  pub other-kept : r .found ≡ true → counted r ≡ looksAtOther r w
-  other-kept e = rw e
-
-  pub other-new : r .found ≡ false → stampIn w .prev ≡ stampIn (r .look) .cur → withFound r w ≡ looksAtOther r w
-  other-new e q = rw (e, eq-eqb (stampIn w .prev) (stampIn (r .look) .cur) q)
-
-  pub other-none : r .found ≡ false → (stampIn w .prev ≡ stampIn (r .look) .cur → ⊥) → counted r ≡ looksAtOther r w
-  other-none e q = rw (e, ne-eqb (stampIn w .prev) (stampIn (r .look) .cur) q)
-
-  abbrev equal : Bool
-  equal = r .agree && same (stampIn (r .look)) (stampIn w)
-
-  pub third-kept : equal ≡ true → r .found ≡ true → counted r ≡ looksThird r w
-  third-kept e q = rw (e, q, or-false (r .second))
-
-  pub third-new : equal ≡ true → r .found ≡ false → withResult r (r .second) w ≡ looksThird r w
-  third-new e q = rw (e, q, or-false (r .second))
-
-  pub third-failed : equal ≡ false → withResult r true (packCell (plain (valueIn (r .look)) none)) ≡ looksThird r w
-  third-failed e = rw (e, or-true (r .second))
-
-pub shown-none : (w : ℕ) → isNone (stampIn w) ≡ true → plain 0 (stampIn w) ≡ showing w
-shown-none w e = rw e
-
-pub shown-some : (w : ℕ) → isNone (stampIn w) ≡ false → plain (valueIn w) (stampIn w) ≡ showing w
-shown-some w e = rw e
-
 -- The sub-steps of an attempt.
 module _ (n p l : ℕ) (r : Reader) (t : List ℕ) where
-  pub try-first : l ≡ 0 → readStepped (looksFirst r (wordAt n t 0 p)) t ≡ attemptStep n p l r t
+  pub try-first : l ≡ 0 → readStepped (looksFirst (counted r) (wordAt n t 0 p)) t ≡ attemptStep n p l r t
   unfolding attemptStep
   try-first e = rw (eq-eqb l 0 e)
 
@@ -115,16 +52,16 @@ module _ (n p l : ℕ) (r : Reader) (t : List ℕ) where
   unfolding attemptStep
   try-announce n0 e = rw (ne-eqb l 0 n0, eq-eqb l 1 e)
 
-  pub try-again : l ≢ 0 → l ≢ 1 → l ≡ 2 → readStepped (looksAgain r (wordAt n t 0 p)) t ≡ attemptStep n p l r t
+  pub try-again : l ≢ 0 → l ≢ 1 → l ≡ 2 → readStepped (looksAgain (counted r) (wordAt n t 0 p)) t ≡ attemptStep n p l r t
   unfolding attemptStep
   try-again n0 n1 e = rw (ne-eqb l 0 n0, ne-eqb l 1 n1, eq-eqb l 2 e)
 
   pub try-other : l ≢ 0 → l ≢ 1 → l ≢ 2 → l < n + 2
-      → readStepped (looksAtOther r (wordAt n t (other p (l - 3)) p)) t ≡ attemptStep n p l r t
+      → readStepped (looksAtOther (counted r) (wordAt n t (other p (l - 3)) p)) t ≡ attemptStep n p l r t
   unfolding attemptStep
   try-other n0 n1 n2 h = rw (ne-eqb l 0 n0, ne-eqb l 1 n1, ne-eqb l 2 n2, lt-ltb l (n + 2) h)
 
-  pub try-third : l ≢ 0 → l ≢ 1 → l ≢ 2 → n + 2 ≤ l → readStepped (looksThird r (wordAt n t 0 p)) t ≡ attemptStep n p l r t
+  pub try-third : l ≢ 0 → l ≢ 1 → l ≢ 2 → n + 2 ≤ l → readStepped (looksThird (counted r) (wordAt n t 0 p)) t ≡ attemptStep n p l r t
   unfolding attemptStep
   try-third n0 n1 n2 h = rw (ne-eqb l 0 n0, ne-eqb l 1 n1, ne-eqb l 2 n2, le-ltb l (n + 2) h)
 
@@ -134,7 +71,7 @@ module _ (n p k : ℕ) (r : Reader) (t : List ℕ) where
   unfolding resultStep
   put-other h = rw (lt-ltb (k + 1) n h)
 
-  pub put-last : n ≤ k + 1 → readStepped (readEnds r) (store n t p 0 (plain 0 (stampIn (r .result)))) ≡ resultStep n p k r t
+  pub put-last : n ≤ k + 1 → readStepped (readEnds (counted r)) (store n t p 0 (plain 0 (stampIn (r .result)))) ≡ resultStep n p k r t
   unfolding resultStep
   put-last h = rw (le-ltb (k + 1) n h)
 

@@ -2,21 +2,21 @@
 use super::range::open_in;
 use super::range::state_ok;
 use super::read::read_step;
-use super::read::value_in;
 use super::write::write_step;
 use protocol::Answer;
-use protocol::Reader;
 use protocol::Refusal;
 use protocol::State;
-use protocol::Writer;
+use reader::looks::value_in;
+use reader::state::open_reader;
 use words::row::Row;
+use writer::state::open_writer;
 ghost use mathlib.Core.Path.{_≡_};
 ghost use mathlib.Core.Bool.{true};
 ghost use Prim.Native.Nat.{_+_, _-_, _<_, _≤_};
 ghost use lib.ListN.{length};
 ghost use Rattle.protocol.specs.State.{readerAt};
 ghost use Rattle.protocol.specs.InRange.{InRange};
-ghost use Rattle.protocol.specs.Calls.{rowOf, writerBegins, readerBegins, beginWriteOf, beginReadOf, stepWriter, stepReader, stepOf};
+ghost use Rattle.protocol.specs.Calls.{rowOf, beginWriteOf, beginReadOf, stepWriter, stepReader, stepOf};
 ghost use Rattle.register.specs.Contract.{outcome};
 
 // What a call gives: its answer, and the state to hand to the next one.
@@ -40,31 +40,11 @@ pub(crate) fn row_of(kind: u8, processor: u32, value: u32) -> u64
 fn refuse(s: State, why: Refusal) -> Called
     ensures { λ c. ⌜ (c .answer ≡ Answer.Refused why) × (c .state ≡ s) ⌝ }
 {
+    let answer = Answer::Refused(why);
     Called {
-        answer: Answer::Refused(why),
+        answer: answer,
         state: s,
     }
-}
-
-fn open_writer(w: Writer, value: u32) -> Writer
-    ensures { λ r. ⌜ r ≡ writerBegins w value ⌝ }
-{
-    let mut next = w;
-    next.active = true;
-    next.moved = 0;
-    next.value = value;
-    next.excluded = 0;
-    next
-}
-
-fn open_reader(r: Reader) -> Reader
-    ensures { λ q. ⌜ q ≡ readerBegins r ⌝ }
-{
-    let mut next = r;
-    next.active = true;
-    next.second = false;
-    next.moved = 0;
-    next
 }
 
 // Begin a write of a value.

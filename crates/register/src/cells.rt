@@ -3,10 +3,10 @@ use words::cell::Cell;
 use words::index::in_row;
 use words::index::row_start;
 ghost use mathlib.Core.Path.{_≡_};
-ghost use Prim.Native.Nat.{_+_, _<_};
+ghost use Prim.Native.Nat.{_<_};
 ghost use lib.ListN.{length, getD, set};
 ghost use Rattle.words.specs.Index.{index, Pair};
-ghost use Rattle.protocol.specs.Table.{store, other};
+ghost use Rattle.protocol.specs.Table.{store};
 ghost use Rattle.register.specs.Contract.{TableOk};
 
 // The word from processor i to processor j.
@@ -35,15 +35,4 @@ pub(crate) fn store_cell(table: &mut [u64], n: u32, i: u32, j: u32, c: Cell)
     let k = in_row(i, j);
     let word = words::cell::pack(c);
     put_word(&mut table[at..], k, word);
-}
-
-// The k-th reader, from 0, other than p.
-pub(crate) fn other_reader(p: u32, k: u32) -> u32
-    requires { ⌜ k < 16 ⌝ }
-    ensures { λ r. ⌜ r ≡ other p k ⌝ }
-{
-    if k + 1 < p {
-        return k + 1;
-    }
-    k + 2
 }

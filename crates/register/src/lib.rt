@@ -1,6 +1,5 @@
 // The register: set-up, begins and sub-steps over a state by value, a lent table and a lent log.
 mod cells; // words of the table
-mod tickets; // sets of tickets
 mod write; // a sub-step of a write
 mod read; // a sub-step of a read
 mod range; // question 4

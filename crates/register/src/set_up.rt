@@ -2,12 +2,12 @@
 use super::calls::Called;
 use super::calls::row_of;
 use protocol::Answer;
-use protocol::Reader;
 use protocol::Refusal;
 use protocol::State;
-use protocol::Writer;
+use reader::state::fresh_reader;
 use words::cell::Cell;
 use words::stamp::Stamp;
+use writer::state::fresh_writer;
 ghost use mathlib.Core.Path.{_≡_};
 ghost use mathlib.Core.List.{_++_};
 ghost use Prim.Native.Nat.{_+_, _*_, _≤_};
@@ -15,7 +15,7 @@ ghost use lib.ListN.{length, drop};
 ghost use lib.Dec.{ltb};
 ghost use Rattle.words.specs.Choice.{pick};
 ghost use Rattle.words.specs.Stamp.{none};
-ghost use Rattle.protocol.specs.SetUp.{freshWriter, freshReader, freshState, noState, setUpOf};
+ghost use Rattle.protocol.specs.SetUp.{freshState, noState, setUpOf};
 ghost use Rattle.register.specs.Contract.{outcome, startWord, voidWord, freshWords};
 
 // The word of a fresh cell from the writer.
@@ -63,36 +63,6 @@ fn fill(table: &mut [u64], n: u32, first: u64, other: u64)
     while i < cells {
         table[i] = fresh_word(i, m, first, other);
         i += 1;
-    }
-}
-
-fn fresh_writer() -> Writer
-    ensures { λ r. ⌜ r ≡ freshWriter ⌝ }
-{
-    let stamp = Stamp { cur: 0, prev: 1 };
-    Writer {
-        active: false,
-        moved: 0,
-        value: 0,
-        excluded: 0,
-        ticket: 63,
-        stamp: stamp,
-    }
-}
-
-fn fresh_reader() -> Reader
-    ensures { λ r. ⌜ r ≡ freshReader ⌝ }
-{
-    let none = words::stamp::no_stamp();
-    Reader {
-        active: false,
-        second: false,
-        moved: 0,
-        stamp: none,
-        look: 0,
-        agree: false,
-        found: false,
-        result: 0,
     }
 }
 

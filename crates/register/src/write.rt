@@ -1,37 +1,16 @@
 // A sub-step of a write.
 use super::cells::store_cell;
 use super::cells::word_from;
-use super::tickets::smallest_out;
-use super::tickets::with_cell;
-use super::tickets::with_ticket;
 use protocol::Writer;
 use words::cell::Cell;
 use words::stamp::Stamp;
+use writer::state::ticket_of;
+use writer::tickets::with_cell;
 ghost use mathlib.Core.Path.{_≡_};
 ghost use Prim.Native.Nat.{_+_, _-_, _*_, _<_, _≤_};
 ghost use lib.ListN.{length};
-ghost use Rattle.protocol.specs.State.{excludedBy};
 ghost use Rattle.protocol.specs.Write.{writerReads, ticketOf, writeStep};
 ghost use Rattle.register.specs.Contract.{TableOk, WriteOk, storedWriter, writeStepped};
-
-// The tickets that the write excludes, its own counted in.
-pub(crate) fn excluded_by(w: Writer) -> u64
-    ensures { λ r. ⌜ r ≡ excludedBy w ⌝ }
-{
-    let a = with_ticket(w.excluded, w.stamp.cur);
-    with_ticket(a, w.stamp.prev)
-}
-
-// The ticket that this sub-step stores: it is taken at the first store.
-fn ticket_of(w: Writer, n: u32) -> u8
-    requires { ⌜ WriteOk n w × (n ≤ w .moved) × (n ≤ 16) ⌝ }
-    ensures { λ r. ⌜ r ≡ ticketOf n w ⌝ }
-{
-    if w.moved as u32 == n {
-        return smallest_out(excluded_by(w)) as u8;
-    }
-    w.ticket
-}
 
 // The next reader's cell is read.
 fn reads_cell(w: Writer, n: u32, table: &[u64]) -> Writer

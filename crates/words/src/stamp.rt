@@ -1,6 +1,6 @@
 // Stamps.
 ghost use mathlib.Core.Path.{_≡_};
-ghost use Rattle.words.specs.Stamp.{none, same};
+ghost use Rattle.words.specs.Stamp.{none, same, stampOk};
 
 // A write's own ticket and that of the write before.
 pub struct Stamp {
@@ -20,4 +20,11 @@ pub fn equal(a: Stamp, b: Stamp) -> bool
     ensures { λ r. ⌜ r ≡ same a b ⌝ }
 {
     (a.cur == b.cur) & (a.prev == b.prev)
+}
+
+// Whether both tickets fit a cell.
+pub fn in_range(s: Stamp) -> bool
+    ensures { λ r. ⌜ r ≡ stampOk s ⌝ }
+{
+    (s.cur < 64) & (s.prev < 64)
 }

@@ -25,8 +25,8 @@ mul-r c = omega arith
 element-copy-out-r : tie.Need-element-copy-out-r Inv-loop μ-loop
 element-copy-out-r c = omega arith
 
-reader-ok-requires : tie.Need-reader-ok-requires Inv-loop μ-loop
-reader-ok-requires c κs = omega arith
+cast-reader-ok : tie.Need-cast-reader-ok Inv-loop μ-loop
+cast-reader-ok c = omega arith
 
 add-i : tie.Need-add-i Inv-loop μ-loop
 add-i c = omega arith
@@ -56,7 +56,8 @@ readers-ok-spec =
     cast-loop
     mul-r
     element-copy-out-r
-    reader-ok-requires
+    cast-reader-ok
+    (λ c κs. tt)
     add-i
     loop-less
     loop-again

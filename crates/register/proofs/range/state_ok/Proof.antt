@@ -9,20 +9,20 @@ use Rattle.register.proofs.range.state_ok.Tie as tie
 open-in-requires : tie.Need-open-in-requires
 open-in-requires c κs = sizes-are _ _ _ _ _ (sym (c .before .sizes-ok .ensures) ∙ c .if1 .taken) .n-high
 
-writer-ok-requires : tie.Need-writer-ok-requires
-writer-ok-requires c κs = sizes-are _ _ _ _ _ (sym (c .before .before .sizes-ok .ensures) ∙ c .before .if1 .taken) .n-high
+cast-writer-ok : tie.Need-cast-writer-ok
+cast-writer-ok c = omega (arith, sizes-are _ _ _ _ _ (sym (c .before .before .before .sizes-ok .ensures) ∙ c .before .before .if1 .taken) .n-high)
 
 readers-ok-requires : tie.Need-readers-ok-requires
-readers-ok-requires c κs = sizes-are _ _ _ _ _ (sym (c .before .before .before .sizes-ok .ensures) ∙ c .before .before .if1 .taken) .n-high
+readers-ok-requires c κs = sizes-are _ _ _ _ _ (sym (c .before .before .before .before .sizes-ok .ensures) ∙ c .before .before .before .if1 .taken) .n-high
 
 add-result : tie.Need-add-result
-add-result c = omega (arith, sizes-are _ _ _ _ _ (sym (c .before .before .before .before .before .sizes-ok .ensures) ∙ c .before .before .before .before .if1 .taken), c .before .before .before .open-in .ensures)
+add-result c = omega (arith, sizes-are _ _ _ _ _ (sym (c .before .before .before .before .before .before .sizes-ok .ensures) ∙ c .before .before .before .before .before .if1 .taken), c .before .before .before .before .open-in .ensures)
 
 returns : tie.Need-returns
 unfolding stateOk
 returns c =
-    let z = sym (c .before .before .before .before .before .before .sizes-ok .ensures) ∙ c .before .before .before .before .before .if1 .taken in
-    rw (z, c .before .before .before .before .open-in .ensures .0, c .before .before .before .writer-ok .ensures, c .before .before .readers-ok .ensures)
+    let z = sym (c .before .before .before .before .before .before .before .sizes-ok .ensures) ∙ c .before .before .before .before .before .before .if1 .taken in
+    rw (z, c .before .before .before .before .before .open-in .ensures .0, c .before .before .before .writer-ok .ensures, c .before .before .readers-ok .ensures)
 
 returns-2 : tie.Need-returns-2
 unfolding stateOk
@@ -36,7 +36,8 @@ state-ok-spec =
     (tie.spec
     (λ c κs. search needs)
     open-in-requires
-    writer-ok-requires
+    cast-writer-ok
+    (λ c κs. search needs)
     readers-ok-requires
     add-result
     returns

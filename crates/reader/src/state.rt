@@ -1,0 +1,64 @@
+// A fresh reader, one that begins a read, and question 4 of one reader.
+use protocol::Reader;
+ghost use mathlib.Core.Path.{_≡_};
+ghost use Rattle.protocol.specs.State.{spanOk, openReadOk, readerOk};
+ghost use Rattle.protocol.specs.SetUp.{freshReader};
+ghost use Rattle.protocol.specs.Calls.{readerBegins};
+
+// A reader that has no stamp of its own yet.
+pub fn fresh_reader() -> Reader
+    ensures { λ r. ⌜ r ≡ freshReader ⌝ }
+{
+    let none = words::stamp::no_stamp();
+    Reader {
+        active: false,
+        second: false,
+        moved: 0,
+        stamp: none,
+        look: 0,
+        agree: false,
+        found: false,
+        result: 0,
+    }
+}
+
+// A read begins.
+pub fn open_reader(r: Reader) -> Reader
+    ensures { λ q. ⌜ q ≡ readerBegins r ⌝ }
+{
+    let mut next = r;
+    next.active = true;
+    next.second = false;
+    next.moved = 0;
+    next
+}
+
+// The words moved by an open read.
+fn span_ok(second: bool, moved: u8, n: u8) -> bool
+    ensures { λ r. ⌜ r ≡ spanOk n second moved ⌝ }
+{
+    let k = moved as u32;
+    let m = n as u32;
+    if second {
+        return (m + 3 <= k) & (k <= 3 * m + 5);
+    }
+    k <= 2 * m + 2
+}
+
+fn open_read_ok(r: Reader, n: u8) -> bool
+    ensures { λ b. ⌜ b ≡ openReadOk n r ⌝ }
+{
+    if r.active {
+        return span_ok(r.second, r.moved, n);
+    }
+    true
+}
+
+// Whether a reader is in range, of n.
+pub fn reader_ok(r: Reader, n: u8) -> bool
+    ensures { λ b. ⌜ b ≡ readerOk n r ⌝ }
+{
+    let stamp = words::stamp::in_range(r.stamp);
+    let open = open_read_ok(r, n);
+    stamp & open
+}
