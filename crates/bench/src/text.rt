@@ -42,15 +42,16 @@ fn print_row(k: u64, row: u64) {
     io::write_all(STDOUT_FILENO, &line[..n]);
 }
 
-// The readers and the start reading, and the rows from 1 on.
+// The readers and the start reading, and the rows from 1 on. "The listing uses a walker made of the lent log and the next row."
 pub(crate) fn print_listing(readers: u32, start: u32, rows: &[u64]) {
     io::write_all(STDOUT_FILENO, b"readers ");
     io::print_decimal(STDOUT_FILENO, readers as u64);
     print_line(b" start ", start as u64);
     let mut k = 1;
     while k < rows.len() {
-        print_row(k as u64, rows[k]);
-        k += 1;
+        let s = walker::next_row(rows, k);
+        print_row(k as u64, s.row);
+        k = s.next;
     }
 }
 
