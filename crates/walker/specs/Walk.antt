@@ -1,4 +1,4 @@
--- What an advance finds at a row of a log. Assumes nothing.
+-- What an advance finds at a row of a log.
 use Prim.Native.Nat.{ℕ, _+_}
 use mathlib.Core.List.{List}
 use lib.Dec.{ltb}
