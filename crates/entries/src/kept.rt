@@ -1,0 +1,32 @@
+// The entries over a state that is kept in a local and lent to them. No parameter is a lent record, so a caller of these needs no proof
+// by hand.
+use protocol::State;
+use register::calls::Called;
+ghost use mathlib.Core.Path.{_≡_};
+ghost use Rattle.protocol.specs.Calls.{stepOf};
+ghost use Rattle.register.specs.Contract.{outcome};
+ghost use Rattle.entries.specs.Contract.{beginOf};
+
+// Processor p begins.
+pub fn begin(s: State, table: &mut [u64], log: &mut [u64], p: u32, value: u32) -> Called
+    ensures { λ r. ⌜ outcome r (now (table .exit)) (now (log .exit)) ≡ beginOf s (now (table .entry)) (now (log .entry)) p value ⌝ }
+{
+    let mut state = s;
+    let answer = super::begin(&mut state, table, log, p, value);
+    Called {
+        answer: answer,
+        state: state,
+    }
+}
+
+// A sub-step of processor p.
+pub fn step(s: State, table: &mut [u64], log: &mut [u64], p: u32) -> Called
+    ensures { λ r. ⌜ outcome r (now (table .exit)) (now (log .exit)) ≡ stepOf s (now (table .entry)) (now (log .entry)) p ⌝ }
+{
+    let mut state = s;
+    let answer = super::step(&mut state, table, log, p);
+    Called {
+        answer: answer,
+        state: state,
+    }
+}
