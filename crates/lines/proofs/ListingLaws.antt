@@ -14,7 +14,7 @@ use lib.ListN.{length, take, set, length-append, length-take}
 use lib.Seq.{sets, length-sets}
 use borrow.Author.Tests.{eq-eqb, ne-eqb, le-ltb, lt-ltb}
 use Rattle.words.specs.Choice.{pick}
-use Rattle.words.proofs.Laws.Choice.{lt-two}
+use Rattle.words.proofs.Laws.Choice.{lt-two, pick-yes}
 use Rattle.lines.specs.Listing.{decimalIn, decimal, field, letterOf, readerText, readingText, lineOf, rowLine, Puts}
 
 -- Steps beyond those needed change nothing.
@@ -28,7 +28,7 @@ steps (suc f) (suc g) n a b =
 
 pub decimal-small : (n : ℕ) → n < 10 → decimal n ≡ (48 + n) ∷ []
 unfolding decimal decimalIn
-decimal-small n h = rw (lt-ltb n 10 h)
+decimal-small n h = pick-yes (ltb n 10) _ _ (lt-ltb n 10 h)
 
 pub decimal-large : (n : ℕ) → 10 ≤ n → decimal n ≡ decimal (n / 10) ++ ((48 + n % 10) ∷ [])
 unfolding decimal decimalIn
