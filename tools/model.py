@@ -74,7 +74,8 @@ class Register:
     """One writer (processor 0) and readers 1..n over a lent table and a lent log.
 
     Answers: ('refused', k), ('set up',), ('begun',), ('step', number). Question 4 is
-    left out: nothing but these calls changes the state, and then it refuses nothing.
+    left out: nothing but these calls changes the state, and then it refuses nothing. It is
+    asked of a state of any origin by in_range.
     """
 
     def set_up(self, n, start, table, log):
@@ -410,6 +411,61 @@ def sweep(rows):
 
 
 # ---------------------------------------------------------------------------- Questions
+
+@dataclass
+class Range:
+    """What question 4 looks at: of a state, and of the table and the log it is used with."""
+    n: int
+    cells: int  # of this table
+    log: int  # rows of this log
+    rows: int  # the log's length as recorded
+    used: int
+    own: list  # own stamps, of which those of processors 0..n count
+    moved: dict  # the words moved by each open processor
+    second: set = field(default_factory=set)  # readers from their second attempt on
+    barred: set = field(default_factory=set)  # by the cells that the open write has read
+    ticket: int = NONE  # the open write's new ticket, once it is taken
+
+
+def sizes_in_range(state):
+    """“n 1 to 16; this table n²+n cells or more; this log as long as recorded, 3 to 4,096;
+    rows used 1 to that; free rows at least the open operations”."""
+    return (1 <= state.n <= MAX_READERS
+            and state.cells >= state.n * state.n + state.n
+            and state.log == state.rows
+            and 3 <= state.rows <= MAX_ROWS
+            and 1 <= state.used <= state.rows
+            and state.rows - state.used >= len(state.moved))
+
+
+def moved_in_range(state):
+    """“words moved at most 2n−1 in an open write, 2n+2 in a read's first attempt, n+3 to 3n+5
+    from its second on”."""
+    n = state.n
+    for p, moved in state.moved.items():
+        least = n + 3 if p in state.second else 0
+        most = 2 * n - 1 if p == 0 else 3 * n + 5 if p in state.second else 2 * n + 2
+        if not least <= moved <= most:
+            return False
+    return True
+
+
+def tickets_in_range(state):
+    """“tickets 0 to 63; until an open write takes its new ticket, its barred tickets, own cur
+    and prev counted in, at most 2 plus 3 for each cell read”."""
+    if any(not 0 <= ticket <= 63 for stamp in state.own[:state.n + 1] for ticket in stamp):
+        return False
+    if 0 not in state.moved:
+        return True
+    if state.moved[0] > state.n:
+        return 0 <= state.ticket <= 63
+    return len(state.barred | set(state.own[0])) <= 2 + 3 * state.moved[0]
+
+
+def in_range(state):
+    """Question 4."""
+    return sizes_in_range(state) and moved_in_range(state) and tickets_in_range(state)
+
 
 def row_0_well_formed(row):
     """“row 0 as above with n 1 to 16”."""

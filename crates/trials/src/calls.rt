@@ -1,0 +1,80 @@
+// Begins and sub-steps, each watched. A call is a word, as for `register::run::run`: above, 1 begins a write, 2 a read, 3 is a sub-step;
+// below, the number.
+use super::same::copy;
+use super::same::same;
+use super::same::same_state;
+use super::text::print;
+use super::text::print_answer;
+use super::text::print_with;
+use protocol::Answer;
+use protocol::State;
+use register::calls::Called;
+use register::calls::begin_read;
+use register::calls::begin_write;
+use register::calls::step;
+
+fn make_call(word: u64, s: State, table: &mut [u64], log: &mut [u64]) -> Called {
+    let kind = word / 4294967296;
+    let number = (word % 4294967296) as u32;
+    if kind == 1 {
+        return begin_write(s, table, log, number);
+    }
+    if kind == 2 {
+        return begin_read(s, table, log, number);
+    }
+    step(s, table, log, number)
+}
+
+fn print_call(word: u64) {
+    let kind = word / 4294967296;
+    if kind == 1 {
+        print(b", W");
+    } else if kind == 2 {
+        print(b", R");
+    } else {
+        print(b", S");
+    }
+    print_with(b" ", word % 4294967296);
+}
+
+// A refusal alters nothing: says whether it did.
+fn print_altered(answer: Answer, unaltered: bool) {
+    match answer {
+        Answer::Accepted => {}
+        Answer::Moved(k) => {}
+        Answer::Refused(r) => {
+            if unaltered {
+                print(b", unaltered");
+            } else {
+                print(b", altered");
+            }
+        }
+    }
+}
+
+// Makes a call and prints its line: what it is, its answer and, if it is refused, whether state, table and log are as before.
+pub(crate) fn try_call(
+    name: &[u8],
+    word: u64,
+    s: State,
+    table: &mut [u64],
+    log: &mut [u64],
+) -> State {
+    let mut cells = [0u64; 306];
+    let mut rows = [0u64; 4097];
+    copy(table, &mut cells);
+    copy(log, &mut rows);
+    let o = make_call(word, s, table, log);
+    let answer = o.answer;
+    let state = o.state;
+    let cells_same = same(table, &cells);
+    let rows_same = same(log, &rows);
+    let state_same = same_state(s, state);
+    print(name);
+    print_call(word);
+    print(b": ");
+    print_answer(answer);
+    print_altered(answer, cells_same & rows_same & state_same);
+    print(b"\n");
+    state
+}

@@ -1,0 +1,24 @@
+// Trials of the register and the judge: the sessions that are not proved, and every refusal, obtained from the code. A line for each
+// trial; the outside model writes the same lines.
+mod text; // what is printed
+mod same; // words and states compared
+mod set_ups; // set-up
+mod calls; // begins and sub-steps, each watched
+mod scripts; // lists of calls, and the order of their rows
+mod states; // states with one field changed
+mod range; // question 4
+mod logs; // the judge: question 9
+mod rows; // rows of logs
+mod malformed; // question 10
+mod orders; // questions 11 and 12
+mod sessions; // the sessions
+
+fn main() {
+    sessions::try_all();
+    set_ups::try_all();
+    scripts::try_all();
+    range::try_all();
+    logs::try_all();
+    malformed::try_all();
+    orders::try_all();
+}

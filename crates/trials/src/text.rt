@@ -1,0 +1,35 @@
+// What is printed.
+use super::same::fewer;
+use libc::STDOUT_FILENO;
+use protocol::Answer;
+use register::run::refusal_number;
+
+pub(crate) fn print(words: &[u8]) {
+    io::write_all(STDOUT_FILENO, words);
+}
+
+// Words and a number.
+pub(crate) fn print_with(words: &[u8], number: u64) {
+    io::write_all(STDOUT_FILENO, words);
+    io::print_decimal(STDOUT_FILENO, number);
+}
+
+// A call's answer.
+pub(crate) fn print_answer(answer: Answer) {
+    match answer {
+        Answer::Accepted => print(b"accepted"),
+        Answer::Moved(k) => print_with(b"sub-step ", k as u64),
+        Answer::Refused(r) => print_with(b"refused ", refusal_number(r)),
+    }
+}
+
+// The first count words of an order.
+pub(crate) fn print_order(order: &[u64], count: usize) {
+    print(b"order");
+    let n = fewer(count, order.len());
+    let mut i = 0;
+    while i < n {
+        print_with(b" ", order[i]);
+        i += 1;
+    }
+}
