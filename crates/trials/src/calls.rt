@@ -6,21 +6,25 @@ use super::same::same_state;
 use super::text::print;
 use super::text::print_answer;
 use super::text::print_with;
+use entries::kept::begin;
+use entries::kept::step;
 use protocol::Answer;
 use protocol::State;
 use register::calls::Called;
 use register::calls::begin_read;
-use register::calls::begin_write;
-use register::calls::step;
 
+// Through the entries over a lent state. To them processor 0 is the writer, so a read by processor 0 is begun by value.
 fn make_call(word: u64, s: State, table: &mut [u64], log: &mut [u64]) -> Called {
     let kind = word / 4294967296;
     let number = (word % 4294967296) as u32;
     if kind == 1 {
-        return begin_write(s, table, log, number);
+        return begin(s, table, log, 0, number);
     }
     if kind == 2 {
-        return begin_read(s, table, log, number);
+        if number == 0 {
+            return begin_read(s, table, log, number);
+        }
+        return begin(s, table, log, number, 0);
     }
     step(s, table, log, number)
 }
