@@ -32,11 +32,11 @@ fn make_call(word: u64, s: State, table: &mut [u64], log: &mut [u64]) -> Called 
 fn print_call(word: u64) {
     let kind = word / 4294967296;
     if kind == 1 {
-        print(b", W");
+        print(b"; W");
     } else if kind == 2 {
-        print(b", R");
+        print(b"; R");
     } else {
-        print(b", S");
+        print(b"; S");
     }
     print_with(b" ", word % 4294967296);
 }
@@ -56,14 +56,8 @@ fn print_altered(answer: Answer, unaltered: bool) {
     }
 }
 
-// Makes a call and prints its line: what it is, its answer and, if it is refused, whether state, table and log are as before.
-pub(crate) fn try_call(
-    name: &[u8],
-    word: u64,
-    s: State,
-    table: &mut [u64],
-    log: &mut [u64],
-) -> State {
+// Makes a call and prints what it is, its answer and, if it is refused, whether state, table and log are as before.
+pub(crate) fn try_call(word: u64, s: State, table: &mut [u64], log: &mut [u64]) -> State {
     let mut cells = [0u64; 306];
     let mut rows = [0u64; 4097];
     copy(table, &mut cells);
@@ -74,11 +68,9 @@ pub(crate) fn try_call(
     let cells_same = same(table, &cells);
     let rows_same = same(log, &rows);
     let state_same = same_state(s, state);
-    print(name);
     print_call(word);
     print(b": ");
     print_answer(answer);
     print_altered(answer, cells_same & rows_same & state_same);
-    print(b"\n");
     state
 }

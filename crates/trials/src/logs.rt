@@ -63,9 +63,8 @@ fn number_of(rows: &[u64]) -> u32 {
 }
 
 // Has a log judged; prints the verdict, how many places were written of an order of marks, and what the judge of bytes says.
-fn try_lent(name: &[u8], rows: &[u64], order: &mut [u64]) {
+fn try_lent(rows: &[u64], order: &mut [u64]) {
     let verdict = judge(rows, order);
-    print(name);
     print(b": ");
     print_verdict(verdict, order);
     print_with(b", places written ", written(order));
@@ -74,51 +73,54 @@ fn try_lent(name: &[u8], rows: &[u64], order: &mut [u64]) {
 }
 
 // The same with so many places for the order.
-pub(crate) fn try_log(name: &[u8], rows: &[u64], places: usize)
+pub(crate) fn try_log(rows: &[u64], places: usize)
     requires { ⌜ places ≤ 4097 ⌝ }
 {
     let mut order = marks();
-    try_lent(name, rows, &mut order[0..places]);
+    try_lent(rows, &mut order[0..places]);
 }
 
-fn try_bytes(name: &[u8], bytes: &[u8]) {
-    print(name);
+// Rows of marks, which are not well formed.
+fn try_marks(count: usize)
+    requires { ⌜ count ≤ 4097 ⌝ }
+{
+    print_with(b"rows ", count as u64);
+    let rows = marks();
+    try_log(&rows[0..count], 16);
+}
+
+fn try_bytes(bytes: &[u8]) {
+    print_with(b"bytes ", bytes.len() as u64);
     print_with(b": ", judge_bytes(bytes) as u64);
     print(b"\n");
 }
 
-// Question 9, of rows and of bytes. Rows of zeros are not well formed.
-fn try_lengths() {
-    let rows = [0u64; 4097];
-    try_log(b"no rows", &rows[0..0], 16);
-    try_log(b"4096 rows of zeros", &rows[0..4096], 16);
-    try_log(b"4097 rows of zeros", &rows[0..4097], 16);
-}
-
-fn try_bytes_of_a_row() {
+// The first bytes of a row 0 and one more.
+fn try_row_0(count: usize)
+    requires { ⌜ count ≤ 9 ⌝ }
+{
     let row = [0x50u8, 0x10, 0, 0, 0, 0, 0, 7, 0x30];
-    try_bytes(b"7 bytes of row 0", &row[0..7]);
-    try_bytes(b"8 bytes of row 0", &row[0..8]);
-    try_bytes(b"row 0 and a byte", &row[0..9]);
+    try_bytes(&row[0..count]);
 }
 
-fn try_zeros(name: &[u8], n: usize)
-    requires { ⌜ n ≤ 32776 ⌝ }
+fn try_zeros(count: usize)
+    requires { ⌜ count ≤ 32776 ⌝ }
 {
     let bytes = zero_bytes();
-    try_bytes(name, &bytes[0..n]);
+    try_bytes(&bytes[0..count]);
 }
 
-fn try_bytes_of_zeros() {
-    try_zeros(b"no bytes", 0);
-    try_zeros(b"32767 bytes of zeros", 32767);
-    try_zeros(b"32768 bytes of zeros", 32768);
-    try_zeros(b"32769 bytes of zeros", 32769);
-    try_zeros(b"32776 bytes of zeros", 32776);
-}
-
+// Question 9, of rows and of bytes.
 pub(crate) fn try_all() {
-    try_lengths();
-    try_bytes_of_a_row();
-    try_bytes_of_zeros();
+    try_marks(0);
+    try_marks(4096);
+    try_marks(4097);
+    try_row_0(0);
+    try_row_0(7);
+    try_row_0(8);
+    try_row_0(9);
+    try_zeros(32767);
+    try_zeros(32768);
+    try_zeros(32769);
+    try_zeros(32776);
 }

@@ -2,13 +2,11 @@
 // trial; the outside model writes the same lines.
 mod text; // what is printed
 mod same; // words and states compared
-mod set_ups; // set-up
+mod set_ups; // set-up: questions 1 to 3
 mod calls; // begins and sub-steps, each watched
-mod scripts; // lists of calls, and the order of their rows
-mod states; // states with one field changed
+mod scripts; // lists of calls: questions 5 to 8
 mod range; // question 4
 mod logs; // the judge: question 9
-mod rows; // rows of logs
 mod malformed; // question 10
 mod orders; // questions 11 and 12
 mod sessions; // the sessions

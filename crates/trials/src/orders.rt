@@ -1,65 +1,90 @@
 // Questions 11 and 12, and orders.
 use super::logs::try_log;
-use super::rows::E_1_5;
-use super::rows::E_1_7;
-use super::rows::E_2_5;
-use super::rows::E_2_6;
-use super::rows::E_2_7;
-use super::rows::R_1;
-use super::rows::R_2;
-use super::rows::ROW_0;
-use super::rows::W_5;
-use super::rows::W_6;
-use super::rows::W_END;
+use super::text::print;
+use super::text::print_rows;
+use super::text::print_with;
+ghost use Prim.Native.Nat.{_≤_};
+
+// Rows of logs of two readers with start reading 7. W: a write begins; W_END: it ends; R: a read begins; E: it ends, with a reading.
+const ROW_0: u64 = 0x5020_0000_0000_0007;
+
+const W_5: u64 = 0x1000_0000_0000_0005;
+
+const W_6: u64 = 0x1000_0000_0000_0006;
+
+const W_END: u64 = 0x2000_0000_0000_0000;
+
+const R_1: u64 = 0x3010_0000_0000_0000;
+
+const R_2: u64 = 0x3020_0000_0000_0000;
+
+const E_1_5: u64 = 0x4010_0000_0000_0005;
+
+const E_1_7: u64 = 0x4010_0000_0000_0007;
+
+const E_2_5: u64 = 0x4020_0000_0000_0005;
+
+const E_2_6: u64 = 0x4020_0000_0000_0006;
+
+const E_2_7: u64 = 0x4020_0000_0000_0007;
+
+fn try_rows(rows: &[u64], places: usize)
+    requires { ⌜ places ≤ 4097 ⌝ }
+{
+    print_with(b"places ", places as u64);
+    print(b", log");
+    print_rows(rows);
+    try_log(rows, places);
+}
 
 // As many places as begin rows, unended ones counted; or one fewer.
 fn try_places() {
     let rows = [ROW_0, W_5, R_1, E_1_5];
-    try_log(b"W 5, R 1, r 1 5 with 1 place", &rows, 1);
-    try_log(b"W 5, R 1, r 1 5 with 2 places", &rows, 2);
-    try_log(b"W 5, R 1, r 1 5 with 9 places", &rows, 9);
+    try_rows(&rows, 1);
+    try_rows(&rows, 2);
+    try_rows(&rows, 9);
 }
 
 fn try_unended() {
     let rows = [ROW_0, R_2, R_1];
-    try_log(b"R 2, R 1 with 1 place", &rows, 1);
-    try_log(b"R 2, R 1 with 2 places", &rows, 2);
+    try_rows(&rows, 1);
+    try_rows(&rows, 2);
 }
 
 // Question 11 is asked before 12.
 fn try_places_first() {
     let rows = [ROW_0, W_5, W_END, R_1, E_1_7];
-    try_log(b"W 5, w, R 1, r 1 7 with 1 place", &rows, 1);
-    try_log(b"W 5, w, R 1, r 1 7 with 2 places", &rows, 2);
+    try_rows(&rows, 1);
+    try_rows(&rows, 2);
 }
 
 // The three sessions of document 01.
 fn try_sessions() {
     let refused = [ROW_0, W_5, R_1, E_1_5, R_2, E_2_7];
-    try_log(b"W 5, R 1, r 1 5, R 2, r 2 7", &refused, 16);
+    try_rows(&refused, 16);
     let before = [ROW_0, W_5, R_2, E_2_7, R_1, E_1_5];
-    try_log(b"W 5, R 2, r 2 7, R 1, r 1 5", &before, 16);
+    try_rows(&before, 16);
 }
 
 fn try_earliest() {
     let rows = [ROW_0, W_5, R_1, W_END, W_6, W_END, W_5, E_1_5, R_2, E_2_6];
-    try_log(b"W 5, R 1, w, W 6, w, W 5, r 1 5, R 2, r 2 6", &rows, 16);
+    try_rows(&rows, 16);
 }
 
 // The row of 12: the first by begin row, and not by end row; all writes are kept.
 fn try_rows_of_12() {
     let crossed = [ROW_0, W_5, W_END, R_1, R_2, E_2_7, E_1_7];
-    try_log(b"W 5, w, R 1, R 2, r 2 7, r 1 7", &crossed, 16);
+    try_rows(&crossed, 16);
     let kept = [ROW_0, R_1, W_5, W_END, E_1_5, R_2, E_2_7];
-    try_log(b"R 1, W 5, w, r 1 5, R 2, r 2 7", &kept, 16);
+    try_rows(&kept, 16);
 }
 
 // An unended write is listed only if a read stands behind it.
 fn try_unended_write() {
     let unread = [ROW_0, W_5, R_1, E_1_7];
-    try_log(b"W 5, R 1, r 1 7", &unread, 16);
+    try_rows(&unread, 16);
     let read = [ROW_0, R_1, R_2, W_5, E_2_5, E_1_7];
-    try_log(b"R 1, R 2, W 5, r 2 5, r 1 7", &read, 16);
+    try_rows(&read, 16);
 }
 
 pub(crate) fn try_all() {

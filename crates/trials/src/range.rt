@@ -1,21 +1,13 @@
-// Question 4: states that fail one of its clauses, and those at the edge that pass. Most are of two readers after a begin of a write and of a
-// read by reader 1, one word moved of each, in a log of 16 rows; some are fresh. One field is changed, or the lent part of a buffer.
+// Question 4: states that fail one of its clauses, and those at the edge that pass. Most are of two readers after W 9, R 1, S 0 and S 1, in a
+// log of 16 rows; some are fresh. One part is changed: a field of the state, or the length of a lent buffer.
 use super::calls::try_call;
 use super::same::marks;
-use super::states::read_moved;
-use super::states::reader_1_stamp;
-use super::states::reader_2_stamp;
-use super::states::reader_3_stamp;
-use super::states::with_n;
-use super::states::with_rows;
-use super::states::with_used;
-use super::states::write_excludes;
-use super::states::write_moved;
-use super::states::write_ticket;
-use super::states::writer_stamp;
+use super::text::print;
+use super::text::print_with;
 use protocol::State;
 use register::run::run;
 use register::set_up::set_up;
+use words::stamp::Stamp;
 ghost use Prim.Native.Nat.{_≤_};
 
 fn fresh() -> State {
@@ -42,97 +34,195 @@ fn begun() -> State {
 }
 
 // A call with a state, and a table and a log of these lengths. Question 4 asks nothing of their words, which are marks.
-fn try_one(name: &[u8], word: u64, s: State, cells: usize, rows: usize)
+fn try_one(word: u64, s: State, cells: usize, rows: usize)
     requires { ⌜ (cells ≤ 4097) × (rows ≤ 4097) ⌝ }
 {
     let mut table = marks();
     let mut log = marks();
-    try_call(name, word, s, &mut table[0..cells], &mut log[0..rows]);
+    try_call(word, s, &mut table[0..cells], &mut log[0..rows]);
 }
 
-// W 5, R 2, S 0, S 1 and S 99 with a state.
-fn try_lent(name: &[u8], s: State, cells: usize, rows: usize)
+// W 5, R 2, S 0, S 1 and S 99, each with the same state.
+fn try_lent(s: State, cells: usize, rows: usize)
     requires { ⌜ (cells ≤ 4097) × (rows ≤ 4097) ⌝ }
 {
-    try_one(name, 0x1_0000_0005, s, cells, rows);
-    try_one(name, 0x2_0000_0002, s, cells, rows);
-    try_one(name, 0x3_0000_0000, s, cells, rows);
-    try_one(name, 0x3_0000_0001, s, cells, rows);
-    try_one(name, 0x3_0000_0063, s, cells, rows);
+    try_one(0x1_0000_0005, s, cells, rows);
+    try_one(0x2_0000_0002, s, cells, rows);
+    try_one(0x3_0000_0000, s, cells, rows);
+    try_one(0x3_0000_0001, s, cells, rows);
+    try_one(0x3_0000_0063, s, cells, rows);
+    print(b"\n");
 }
 
-fn try_state(name: &[u8], s: State) {
-    try_lent(name, s, 306, 16);
+fn try_state(s: State) {
+    try_lent(s, 306, 16);
+}
+
+fn try_n(s: State, n: u32) {
+    print_with(b"n ", n as u64);
+    let mut t = s;
+    t.n = n;
+    try_state(t);
+}
+
+fn try_cells(s: State, cells: usize)
+    requires { ⌜ cells ≤ 4097 ⌝ }
+{
+    print_with(b"cells ", cells as u64);
+    try_lent(s, cells, 16);
+}
+
+// A log of other length than recorded.
+fn try_other_log(s: State, rows: usize)
+    requires { ⌜ rows ≤ 4097 ⌝ }
+{
+    print_with(b"rows lent ", rows as u64);
+    try_lent(s, 306, rows);
+}
+
+// A log as long as recorded.
+fn try_log_of(s: State, rows: usize)
+    requires { ⌜ rows ≤ 4097 ⌝ }
+{
+    print_with(b"fresh, rows ", rows as u64);
+    let mut t = s;
+    t.rows = rows;
+    try_lent(t, 306, rows);
+}
+
+fn try_used(s: State, used: usize) {
+    print_with(b"rows used ", used as u64);
+    let mut t = s;
+    t.used = used;
+    try_state(t);
+}
+
+// An open write: the words moved, the set of tickets excluded by the cells read, and the new ticket.
+fn try_write(s: State, moved: u8, excluded: u64, ticket: u8) {
+    print_with(b"write moved ", moved as u64);
+    print_with(b", set excluded ", excluded);
+    print_with(b", ticket ", ticket as u64);
+    let mut w = s.writer;
+    w.moved = moved;
+    w.excluded = excluded;
+    w.ticket = ticket;
+    let mut t = s;
+    t.writer = w;
+    try_state(t);
+}
+
+// Reader 1's open read: its attempt, and the words moved.
+fn try_read(s: State, second: bool, moved: u8) {
+    print_with(b"second attempt ", second as u64);
+    print_with(b", read moved ", moved as u64);
+    let mut r = s.readers[0];
+    r.second = second;
+    r.moved = moved;
+    let mut t = s;
+    t.readers[0] = r;
+    try_state(t);
+}
+
+fn print_stamp(processor: u64, cur: u8, prev: u8) {
+    print_with(b"processor ", processor);
+    print_with(b", stamp ", cur as u64);
+    print_with(b" ", prev as u64);
+}
+
+fn try_writer_stamp(s: State, cur: u8, prev: u8) {
+    print_stamp(0, cur, prev);
+    let stamp = Stamp {
+        cur: cur,
+        prev: prev,
+    };
+    let mut w = s.writer;
+    w.stamp = stamp;
+    let mut t = s;
+    t.writer = w;
+    try_state(t);
+}
+
+fn try_reader_stamp(s: State, i: usize, cur: u8, prev: u8)
+    requires { ⌜ (1 ≤ i) × (i ≤ 16) ⌝ }
+{
+    print_stamp(i as u64, cur, prev);
+    let stamp = Stamp {
+        cur: cur,
+        prev: prev,
+    };
+    let mut r = s.readers[i - 1];
+    r.stamp = stamp;
+    let mut t = s;
+    t.readers[i - 1] = r;
+    try_state(t);
 }
 
 // n 1 to 16; this table n²+n cells or more; this log as long as recorded.
 fn try_sizes(s: State) {
-    try_state(b"as begun", s);
-    try_state(b"n 0", with_n(s, 0));
-    try_state(b"n 1", with_n(s, 1));
-    try_state(b"n 16", with_n(s, 16));
-    try_state(b"n 17", with_n(s, 17));
-    try_state(b"n 4294967295", with_n(s, 4294967295));
-    try_lent(b"5 cells", s, 5, 16);
-    try_lent(b"6 cells", s, 6, 16);
-    try_lent(b"15 rows of 16", s, 306, 15);
-    try_lent(b"17 rows of 16", s, 306, 17);
+    try_n(s, 0);
+    try_n(s, 1);
+    try_n(s, 2);
+    try_n(s, 16);
+    try_n(s, 17);
+    try_n(s, 4294967295);
+    try_cells(s, 5);
+    try_cells(s, 6);
+    try_other_log(s, 15);
+    try_other_log(s, 17);
 }
 
-// A log of 3 to 4,096 rows; rows used 1 to that. With a fresh state.
+// A log of 3 to 4,096 rows; rows used 1 to that.
 fn try_rows(s: State) {
-    try_lent(b"fresh, 2 rows", with_rows(s, 2), 306, 2);
-    try_lent(b"fresh, 3 rows", with_rows(s, 3), 306, 3);
-    try_lent(b"fresh, 4096 rows", with_rows(s, 4096), 306, 4096);
-    try_lent(b"fresh, 4097 rows", with_rows(s, 4097), 306, 4097);
-    try_state(b"fresh, 0 rows used", with_used(s, 0));
-    try_state(b"fresh, 16 rows used", with_used(s, 16));
-    try_state(b"fresh, 17 rows used", with_used(s, 17));
+    try_log_of(s, 2);
+    try_log_of(s, 3);
+    try_log_of(s, 4096);
+    try_log_of(s, 4097);
+    print(b"fresh, ");
+    try_used(s, 0);
+    print(b"fresh, ");
+    try_used(s, 16);
+    print(b"fresh, ");
+    try_used(s, 17);
 }
 
 // Free rows at least the open operations, of which there are two; words moved.
 fn try_moved(s: State) {
-    try_state(b"14 rows used", with_used(s, 14));
-    try_state(b"15 rows used", with_used(s, 15));
-    try_state(b"write, 3 words moved", write_moved(s, 3));
-    try_state(b"write, 4 words moved", write_moved(s, 4));
-    try_state(b"write, 255 words moved", write_moved(s, 255));
-    try_state(b"first attempt, 6 words moved", read_moved(s, false, 6));
-    try_state(b"first attempt, 7 words moved", read_moved(s, false, 7));
-    try_state(b"second attempt, 4 words moved", read_moved(s, true, 4));
-    try_state(b"second attempt, 5 words moved", read_moved(s, true, 5));
-    try_state(b"second attempt, 11 words moved", read_moved(s, true, 11));
-    try_state(b"second attempt, 12 words moved", read_moved(s, true, 12));
+    try_used(s, 14);
+    try_used(s, 15);
+    try_write(s, 3, 0, 63);
+    try_write(s, 4, 0, 63);
+    try_write(s, 255, 0, 63);
+    try_read(s, false, 6);
+    try_read(s, false, 7);
+    try_read(s, true, 4);
+    try_read(s, true, 5);
+    try_read(s, true, 11);
+    try_read(s, true, 12);
 }
 
-// Tickets 0 to 63: own stamps of the writer and of readers, and an open write's new ticket once it is taken.
+// Tickets 0 to 63: own stamps, of readers 1 and 2 only, and an open write's new ticket once it is taken.
 fn try_tickets(s: State) {
-    let taken = write_moved(s, 3);
-    try_state(b"writer's stamp 63 63", writer_stamp(s, 63, 63));
-    try_state(b"writer's stamp 64 1", writer_stamp(s, 64, 1));
-    try_state(b"writer's stamp 0 64", writer_stamp(s, 0, 64));
-    try_state(b"reader 1's stamp 64 1", reader_1_stamp(s, 64, 1));
-    try_state(b"reader 1's stamp 0 64", reader_1_stamp(s, 0, 64));
-    try_state(b"reader 2's stamp 255 63", reader_2_stamp(s, 255, 63));
-    try_state(b"reader 2's stamp 63 255", reader_2_stamp(s, 63, 255));
-    try_state(b"reader 3's stamp 64 64", reader_3_stamp(s, 64, 64));
-    try_state(b"new ticket 63, taken", write_ticket(taken, 63));
-    try_state(b"new ticket 64, taken", write_ticket(taken, 64));
-    try_state(b"new ticket 64, not taken", write_ticket(s, 64));
+    try_writer_stamp(s, 63, 63);
+    try_writer_stamp(s, 64, 1);
+    try_writer_stamp(s, 0, 64);
+    try_reader_stamp(s, 1, 64, 1);
+    try_reader_stamp(s, 1, 0, 64);
+    try_reader_stamp(s, 2, 255, 63);
+    try_reader_stamp(s, 2, 63, 255);
+    try_reader_stamp(s, 3, 64, 64);
+    try_write(s, 3, 0, 64);
+    try_write(s, 2, 0, 64);
 }
 
 // Barred tickets at most 2 plus 3 for each cell read, own cur 0 and prev 1 counted in, until the new ticket is taken.
 fn try_barred(s: State) {
-    let none = write_moved(s, 0);
-    let both = write_moved(s, 2);
-    let taken = write_moved(s, 3);
-    try_state(b"no cell read, 0 and 1 barred", write_excludes(none, 0x3));
-    try_state(b"no cell read, 2 barred", write_excludes(none, 0x4));
-    try_state(b"1 cell read, 0 to 4 barred", write_excludes(s, 0x1F));
-    try_state(b"1 cell read, 2 to 5 barred", write_excludes(s, 0x3C));
-    try_state(b"2 cells read, 2 to 7 barred", write_excludes(both, 0xFC));
-    try_state(b"2 cells read, 2 to 8 barred", write_excludes(both, 0x1FC));
-    try_state(b"ticket taken, 2 to 9 barred", write_excludes(taken, 0x3FC));
+    try_write(s, 0, 0x3, 63);
+    try_write(s, 0, 0x4, 63);
+    try_write(s, 1, 0x1F, 63);
+    try_write(s, 1, 0x3C, 63);
+    try_write(s, 2, 0xFC, 63);
+    try_write(s, 2, 0x1FC, 63);
+    try_write(s, 3, 0x3FC, 63);
 }
 
 pub(crate) fn try_all() {

@@ -22,7 +22,7 @@ fn try_lent(n: u32, table: &mut [u64], log: &mut [u64]) {
 }
 
 // The same in a table and a log of these lengths.
-fn try_set_up(n: u32, cells: usize, rows: usize)
+pub(crate) fn try_set_up(n: u32, cells: usize, rows: usize)
     requires { ⌜ (cells ≤ 4097) × (rows ≤ 4097) ⌝ }
 {
     let mut table = marks();
@@ -32,9 +32,7 @@ fn try_set_up(n: u32, cells: usize, rows: usize)
 
 // Refused: each question at its edges, and with a no to the questions behind it.
 fn try_refused() {
-    try_set_up(0, 306, 4096);
     try_set_up(0, 0, 0);
-    try_set_up(17, 306, 4096);
     try_set_up(17, 0, 4097);
     try_set_up(4294967295, 306, 4096);
     try_set_up(1, 1, 3);
@@ -43,7 +41,6 @@ fn try_refused() {
     try_set_up(16, 271, 4096);
     try_set_up(16, 271, 4097);
     try_set_up(1, 2, 0);
-    try_set_up(1, 2, 2);
     try_set_up(16, 306, 2);
     try_set_up(16, 272, 4097);
 }

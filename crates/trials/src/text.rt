@@ -14,6 +14,16 @@ pub(crate) fn print_with(words: &[u8], number: u64) {
     io::print_decimal(STDOUT_FILENO, number);
 }
 
+// Rows in hexadecimal.
+pub(crate) fn print_rows(rows: &[u64]) {
+    let mut i = 0;
+    while i < rows.len() {
+        print(b" ");
+        io::print_hex(STDOUT_FILENO, rows[i], 16);
+        i += 1;
+    }
+}
+
 // A call's answer.
 pub(crate) fn print_answer(answer: Answer) {
     match answer {

@@ -6,10 +6,10 @@ use Rattle.trials.proofs.scripts.try_calls.Statement.{statement}
 use Rattle.trials.proofs.scripts.try_calls.Tie as tie
 
 abbrev Inv-loop : tie.InvT-loop
-Inv-loop name words table₀ log₀ state₀ i₀ table log state i = (length table ≡ length table₀) × (length log ≡ length log₀)
+Inv-loop words table₀ log₀ state₀ i₀ table log state i = (length table ≡ length table₀) × (length log ≡ length log₀)
 
 abbrev μ-loop : tie.MeasureT-loop
-μ-loop name words table₀ log₀ state₀ i₀ table log state i = length words - i
+μ-loop words table₀ log₀ state₀ i₀ table log state i = length words - i
 
 pub try-calls-spec : {M : Type 1} → statement M
 try-calls-spec =

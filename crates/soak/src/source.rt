@@ -1,0 +1,154 @@
+// The calls of a round: mostly sub-steps of one processor after another, in bursts; begins; now and then a processor number out of range.
+// One processor is passed over at first choice, and another one later.
+use super::sum::mix;
+ghost use Prim.Native.Nat.{_<_, _≤_};
+
+// Calls as words, as `register::run::run` takes them.
+const WRITE: u64 = 0x1_0000_0000;
+
+const READ: u64 = 0x2_0000_0000;
+
+const STEP: u64 = 0x3_0000_0000;
+
+// The generator's word, the processor whose turn it is, the sub-steps left of its burst, the processor passed over, and the call.
+pub(crate) struct Source {
+    pub x: u64,
+    pub processor: u64,
+    pub left: u64,
+    pub paused: u64,
+    pub word: u64,
+}
+
+// The source that starts from a word of the generator.
+pub(crate) fn source_of(x: u64) -> Source {
+    Source {
+        x: x,
+        processor: 0,
+        left: 0,
+        paused: 0,
+        word: 0,
+    }
+}
+
+// A number from 0 to k-1.
+fn pick(x: u64, k: u64) -> u64
+    requires { ⌜ 0 < k ⌝ }
+{
+    (x >> 32) % k
+}
+
+// A call, where the generator has come to x.
+fn called(s: Source, x: u64, word: u64) -> Source {
+    let mut t = s;
+    t.x = x;
+    t.word = word;
+    t
+}
+
+// A processor's turn, where the generator has come to x.
+fn turn_of(s: Source, x: u64, processor: u64) -> Source {
+    let mut t = s;
+    t.x = x;
+    t.processor = processor;
+    t
+}
+
+// The next processor.
+fn choose(s: Source, n: u64) -> Source
+    requires { ⌜ n ≤ 16 ⌝ }
+{
+    let x = mix(s.x);
+    let first = pick(x, n + 1);
+    if first != s.paused {
+        return turn_of(s, x, first);
+    }
+    let y = mix(x);
+    turn_of(s, y, pick(y, n + 1))
+}
+
+// The sub-steps of its burst.
+fn start_burst(s: Source, burst: u64) -> Source
+    requires { ⌜ 0 < burst ⌝ }
+{
+    let x = mix(s.x);
+    let mut t = s;
+    t.x = x;
+    t.left = pick(x, burst);
+    t
+}
+
+// Perhaps another processor to pass over.
+fn pause(s: Source, n: u64) -> Source
+    requires { ⌜ n ≤ 16 ⌝ }
+{
+    let x = mix(s.x);
+    let mut t = s;
+    if (x >> 32) % 128 == 0 {
+        let y = mix(x);
+        t.x = y;
+        t.paused = pick(y, n + 1);
+        return t;
+    }
+    t.x = x;
+    t
+}
+
+// A begin. There are few readings, so that many writes have the same.
+fn begin(s: Source, x: u64) -> Source {
+    if s.processor == 0 {
+        let y = mix(x);
+        return called(s, y, WRITE | ((y >> 32) % 4));
+    }
+    called(s, x, READ | s.processor)
+}
+
+// The call at the head of a burst.
+fn head(s: Source, n: u64) -> Source
+    requires { ⌜ n ≤ 16 ⌝ }
+{
+    let x = mix(s.x);
+    let kind = (x >> 32) % 64;
+    if kind < 3 {
+        let y = mix(x);
+        if kind == 0 {
+            return called(s, y, STEP | (n + (y >> 32) % 3));
+        }
+        if kind == 1 {
+            return called(s, y, READ | pick(y, n + 3));
+        }
+        return called(s, y, STEP | (y >> 32));
+    }
+    if kind < 40 {
+        return begin(s, x);
+    }
+    called(s, x, STEP | s.processor)
+}
+
+// The next call.
+fn next(s: Source, n: u64, burst: u64) -> Source
+    requires { ⌜ (n ≤ 16) × (0 < burst) ⌝ }
+{
+    if 0 < s.left {
+        let mut t = s;
+        t.left = s.left - 1;
+        t.word = STEP | s.processor;
+        return t;
+    }
+    let a = choose(s, n);
+    let b = start_burst(a, burst);
+    let c = pause(b, n);
+    head(c, n)
+}
+
+// Fills the words with calls.
+pub(crate) fn fill(words: &mut [u64], from: Source, n: u64, burst: u64)
+    requires { ⌜ (n ≤ 16) × (0 < burst) ⌝ }
+{
+    let mut s = from;
+    let mut i = 0;
+    while i < words.len() {
+        s = next(s, n, burst);
+        words[i] = s.word;
+        i += 1;
+    }
+}

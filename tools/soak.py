@@ -1,0 +1,121 @@
+#!/usr/bin/env python3
+"""What the program soak prints, by the outside model: random lists of calls for every number
+of readers, and a checksum of all that they leave.
+
+    soak.py [ROUNDS]
+
+For each n from 1 to 16 it runs so many rounds, 4 if no number is given, and prints a line.
+A round is a set-up, a list of calls, and the judge on the used rows.
+"""
+
+import sys
+
+sys.dont_write_bytecode = True
+
+from model import Register, judge
+
+WORD = (1 << 64) - 1
+MARK = WORD  # what buffers hold before anything is written to them
+SEED = 0x9E3779B97F4A7C15
+CELLS = 280  # of every table, 8 more than 16 readers need
+MOST_CALLS = 65536
+LENGTHS = (3, 6, 17, 64, 300, 1024, 2500, 4096)  # of the log
+WRITE, READ, STEP = (kind << 32 for kind in (1, 2, 3))  # calls as words
+
+
+def mix(x):
+    """One step of xorshift64."""
+    x ^= x << 13 & WORD
+    x ^= x >> 7
+    return x ^ x << 17 & WORD
+
+
+def fold(sum_, word):
+    """A checksum, with one more word."""
+    return mix(sum_ ^ word) + SEED & WORD
+
+
+class Source:
+    """The calls of a round: mostly sub-steps of one processor after another, in bursts; begins;
+    now and then a processor number out of range. One processor is passed over at first choice,
+    and another one later."""
+
+    def __init__(self, n, seed):
+        self.x, self.n = mix(seed), n
+        self.start = self.pick(4)
+        self.rows = LENGTHS[self.pick(8)]
+        self.burst = 1 + self.pick(4) * (n + 1)
+        self.processor = self.left = self.paused = 0
+
+    def pick(self, k):
+        """A number from 0 to k-1."""
+        self.x = mix(self.x)
+        return (self.x >> 32) % k
+
+    def calls(self):
+        """As many calls as the log's length asks for."""
+        return [self.call() for _ in range(min(32 * self.rows, MOST_CALLS))]
+
+    def call(self):
+        if self.left > 0:
+            self.left -= 1
+            return STEP | self.processor
+        self.turn()
+        kind = self.pick(64)
+        if kind == 0:
+            return STEP | self.n + self.pick(3)
+        if kind == 1:
+            return READ | self.pick(self.n + 3)
+        if kind == 2:
+            return STEP | self.pick(1 << 32)
+        if kind < 40:
+            return self.begin()
+        return STEP | self.processor
+
+    def turn(self):
+        """The next processor, its burst, and perhaps another one to pass over."""
+        self.processor = self.pick(self.n + 1)
+        if self.processor == self.paused:
+            self.processor = self.pick(self.n + 1)
+        self.left = self.pick(self.burst)
+        if self.pick(128) == 0:
+            self.paused = self.pick(self.n + 1)
+
+    def begin(self):
+        """Few readings, so that many writes have the same."""
+        return WRITE | self.pick(4) if self.processor == 0 else READ | self.processor
+
+
+def answer_word(answer):
+    """Above the refusal number, below the sub-step's."""
+    return answer[1] << 32 if answer[0] == 'refused' else answer[1] if answer[0] == 'step' else 0
+
+
+def round_of(n, seed, sum_):
+    """A round, folded: the answers, the whole table and log, the judge's answer, the order."""
+    source = Source(n, seed)
+    register = Register()
+    register.set_up(n, source.start, [MARK] * CELLS, [MARK] * source.rows)
+    makers = {WRITE: register.begin_write, READ: register.begin_read, STEP: register.step}
+    for word in source.calls():
+        number = word & 0xFFFFFFFF
+        sum_ = fold(sum_, answer_word(makers[word - number](number)))
+    for word in register.table + register.log + [register.used]:
+        sum_ = fold(sum_, word)
+    answer = judge(register.log[:register.used])
+    order = answer[1] if answer[0] == 'order' else []
+    for word in [0 if answer[0] == 'order' else answer[1], len(order)] + order:
+        sum_ = fold(sum_, word)
+    return sum_
+
+
+def main(rounds):
+    for n in range(1, 17):
+        sum_ = SEED
+        for k in range(rounds):
+            sum_ = round_of(n, SEED ^ (n << 32 | k), sum_)
+        print(f'n {n}: {sum_:016x}')
+
+
+if __name__ == '__main__':
+    main(int(sys.argv[1]) if len(sys.argv) > 1 else 4)
