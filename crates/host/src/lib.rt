@@ -1,0 +1,41 @@
+// The register for a host in C: set-up and a list of calls, in lent buffers.
+use protocol::Answer;
+use register::run::refusal_number;
+ghost use mathlib.Core.Path.{_≡_};
+ghost use Prim.Native.Nat.{_≤_};
+ghost use Rattle.protocol.specs.Answers.{numberOf};
+ghost use Rattle.register.specs.Run.{runWordsOf};
+ghost use Rattle.host.specs.Host.{resultOf};
+
+// The number of an answer's refusal, or 0.
+fn number(a: Answer) -> u64
+    ensures { λ r. ⌜ (r ≡ numberOf a) × (r ≤ 8) ⌝ }
+{
+    match a {
+        Answer::Accepted => 0,
+        Answer::Moved(k) => 0,
+        Answer::Refused(why) => refusal_number(why),
+    }
+}
+
+// A register of so many readers with a start reading, and the calls made on it (see register::run::run). The result's upper half is
+// the number of set-up's refusal, or 0; its lower half is the number of calls made, modulo 2^32.
+#[no_mangle]
+pub extern "C" fn register_run(
+    readers: u32,
+    start: u32,
+    calls: &[u64],
+    table: &mut [u64],
+    log: &mut [u64],
+    answers: &mut [u64],
+) -> u64
+    ensures result { λ r. ⌜ r ≡ resultOf readers start (now (calls .entry)) (now (table .entry)) (now (log .entry)) (now (answers .entry)) ⌝ }
+    ensures table { λ r. ⌜ now (table .exit) ≡ runWordsOf readers start (now (calls .entry)) (now (table .entry)) (now (log .entry)) (now (answers .entry)) .table ⌝ }
+    ensures log { λ r. ⌜ now (log .exit) ≡ runWordsOf readers start (now (calls .entry)) (now (table .entry)) (now (log .entry)) (now (answers .entry)) .log ⌝ }
+    ensures answers { λ r. ⌜ now (answers .exit) ≡ runWordsOf readers start (now (calls .entry)) (now (table .entry)) (now (log .entry)) (now (answers .entry)) .places ⌝ }
+{
+    let ran = register::run::run(readers, start, calls, table, log, answers);
+    let answer = ran.answer;
+    let made = ran.calls.made;
+    number(answer) * 4294967296 + made as u64 % 4294967296
+}
