@@ -1,5 +1,5 @@
 -- A list of calls made from words, one call at a time.
-use Prim.Native.Nat.{ℕ, suc, _+_, _^_, _≤_, _<_}
+use Prim.Native.Nat.{ℕ, zero, suc, _+_, _^_, _≤_, _<_}
 use mathlib.Core.Path.{_≡_, refl, sym, ap, subst, _∙_}
 use mathlib.Core.Logic.{_≢_}
 use mathlib.Core.List.{List, [], _∷_, _++_, map, append-assoc}
@@ -21,6 +21,7 @@ use Rattle.protocol.specs.declared.Answer.{Answer}
 use Rattle.protocol.specs.declared.Answer.the-variants.{Accepted}
 use Rattle.protocol.specs.SetUp.{Outcome, setUpOf}
 use Rattle.protocol.specs.Calls.{beginWriteOf, beginReadOf, stepOf}
+use Rattle.protocol.specs.Reference.{Call}
 use Rattle.protocol.specs.Runs.{callOf, runOf}
 use Rattle.protocol.specs.Whole.{LowCall, LowCalls}
 use Rattle.protocol.proofs.Whole.{whole}
@@ -177,6 +178,11 @@ low-calls [] places = tt
 low-calls (w ∷ ws) [] = tt
 low-calls (w ∷ ws) (a ∷ places) = pick-ind LowCalls (isCall w) _ _ (λ e. (low-call w, low-calls ws places)) (λ e. tt)
 
+low-take : (k : ℕ) (cs : List Call) → LowCalls cs → LowCalls (take k cs)
+low-take zero cs h = tt
+low-take (suc k) [] h = tt
+low-take (suc k) (c ∷ cs) h = (h .0, low-take k cs (h .1))
+
 -- A run: set-up, and its calls.
 module _ (n v : ℕ) (t l words places : List ℕ) where
   module _ (c : Called) (t' l' : List ℕ) (o : outcome c t' l' ≡ setUpOf n v t l) where
@@ -203,7 +209,7 @@ module _ (n v : ℕ) (t l words places : List ℕ) where
         rows-beyond = w .rows-beyond;
         ordered = subst (λ (rows : List ℕ). (o : List ℕ) × Orders rows o) (sym (w .rows-are)) (w .ordered);
         never-older = never-older _ (subst (λ (rows : List ℕ). T (wellFormed rows)) (sym (w .rows-are)) (w .formed));
-        whole = w;
+        whole = λ k. whole n v t l (take k (callsIn words places)) e low (low-take k (callsIn words places) (low-calls words places));
       }
 
   pub whole-run : (m : MadeCalls) → m ≡ runWordsOf n v words t l places → v < 2 ^ 32 → setUpOf n v t l .answer ≡ Accepted

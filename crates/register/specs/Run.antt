@@ -91,5 +91,5 @@ module _ (n v : ℕ) (t l words places : List ℕ) (m : MadeCalls) where
     -- "can yours be the older although you looked later?" In no order of the log: a read that began after another had ended stands
     -- behind the same write or a later one.
     pub never-older : (o : List ℕ) → Orders (take (m .state .used) (m .log)) o → NeverOlder (take (m .state .used) (m .log)) o
-    -- the sub-steps' numbers, the ends and the new tickets: the claim about the calls that were made
-    pub whole : Whole n v t l (callsIn words places)
+    -- the sub-steps' numbers, the ends and the new tickets: the claim about the first k of the calls that were made, for each k
+    pub whole : (k : ℕ) → Whole n v t l (take k (callsIn words places))
