@@ -114,7 +114,8 @@ impl Kind {
 /// Easy: the first rows of what the register logs on a random schedule. A read's write stands a few rows away.
 ///
 /// The others are as bad as a log can be. The reads of one reader come one after the other, and a read is sought from where the one
-/// before it was placed; so the judge of crates/judge looks at each row at most once for each reader, n times for each row.
+/// before it was placed, or later; so but for the first row of each search, the judge of crates/judge looks at a row at most once for each
+/// reader, n times.
 ///
 /// Late: all readers begin, writes of rising readings follow to the end, then every read gives the last one's reading, so that each
 /// is sought through the whole log. It has an order.

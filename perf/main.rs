@@ -12,6 +12,7 @@ const READERS: [u32; 3] = [1, 4, 16];
 const ROWS: [usize; 5] = [256, 512, 1024, 2048, 4096];
 const LEAST: Duration = Duration::from_micros(100); // of a turn: short work is repeated in it
 const SPAN: Duration = Duration::from_millis(800); // of a measurement: turns are taken until then, of which the fastest counts
+const LONG_SPAN: Duration = Duration::from_secs(5); // of one whose turns are long
 const LIMIT: Duration = Duration::from_secs(10); // of a search
 const ROOM: usize = 29_000_000; // states that a search keeps, about 1.4 GB
 
@@ -56,7 +57,7 @@ mod proved {
 }
 
 /// The least time of each of some pieces of work, in nanoseconds. They take turns, so that what else the machine does meets them all.
-fn least<const N: usize>(mut work: [&mut dyn FnMut(); N]) -> [f64; N] {
+fn least<const N: usize>(span: Duration, mut work: [&mut dyn FnMut(); N]) -> [f64; N] {
     let mut times = [1usize; N];
     for (f, times) in work.iter_mut().zip(&mut times) {
         loop {
@@ -70,7 +71,7 @@ fn least<const N: usize>(mut work: [&mut dyn FnMut(); N]) -> [f64; N] {
     }
     let mut best = [f64::MAX; N];
     let begun = Instant::now();
-    while begun.elapsed() < SPAN {
+    while begun.elapsed() < span {
         for i in 0..N {
             let start = Instant::now();
             (0..times[i]).for_each(|_| work[i]());
@@ -186,7 +187,7 @@ fn judged(logs: &[Vec<u64>]) -> Judged {
             black_box(judge(black_box(bytes)));
         }
     };
-    let times = least([&mut || each(proved::judge), &mut || each(judge::judge), &mut || each(judge::judge_in_passes)]);
+    let times = least(SPAN, [&mut || each(proved::judge), &mut || each(judge::judge), &mut || each(judge::judge_in_passes)]);
     let [ours, rust, passes] = times.map(|t| t / all.len() as f64);
     Judged { ours, rust, passes, number, search: searched(&logs[0], number, ours) }
 }
@@ -221,7 +222,46 @@ fn figures(x: f64) -> String {
     if x < 10.0 { format!("{x:.1}") } else { format!("{x:.0}") }
 }
 
-fn print_judges() {
+/// A range of ratios, and whether all are within an aim.
+#[derive(Clone, Copy)]
+struct Range {
+    low: f64,
+    high: f64,
+}
+
+const EMPTY: Range = Range { low: f64::MAX, high: 0.0 };
+
+impl Range {
+    fn take(&mut self, ratio: f64) {
+        self.low = self.low.min(ratio);
+        self.high = self.high.max(ratio);
+    }
+
+    fn print(self, what: &str, aim: f64) {
+        let met = if self.high <= aim { "yes" } else { "no" };
+        println!("| {what} | {aim} | {:.2} to {:.2} | {met} |", self.low, self.high);
+    }
+}
+
+/// What the aims are about.
+struct Ratios {
+    easy: Range,
+    bad: Range,
+    growth: Range,
+    register: Range,
+}
+
+fn print_aims(r: &Ratios) {
+    println!("### Aims\n");
+    println!("| ratio | at most | found | met |\n|---|---|---|---|");
+    r.easy.print("judge to plain Rust, easy logs", 1.5);
+    r.bad.print("judge to plain Rust, bad logs", 1.5);
+    r.register.print("register to plain Rust", 3.0);
+    r.growth.print("judge's time per row at 4,096 rows to that at 512", 1.3);
+    println!();
+}
+
+fn print_judges(ratios: &mut Ratios) {
     let mut all = Vec::new();
     for n in READERS {
         // as many different runs as logs of the shortest kind take to come to 4,096 rows
@@ -240,6 +280,9 @@ fn print_judges() {
                     judged(&logs)
                 })
                 .collect();
+            let range = if kind.name() == "easy" { &mut ratios.easy } else { &mut ratios.bad };
+            row.iter().for_each(|j| range.take(j.ours / j.rust));
+            ratios.growth.take((row[4].ours / 4096.0) / (row[1].ours / 512.0));
             eprintln!("judged: {n} {}", kind.name());
             all.push((kind, n, row));
         }
@@ -282,7 +325,7 @@ fn again(run: Run, n: u32, calls: &[u64], rows: usize) -> impl FnMut() {
     }
 }
 
-fn print_registers() {
+fn print_registers(ratios: &mut Ratios) {
     println!("### Register: a list of calls that fills a log of 4,096 rows\n");
     println!("The first and the last eighth of the calls are by the proved register, the last as a difference of two runs.\n");
     println!(
@@ -293,13 +336,16 @@ fn print_registers() {
         let calls = logs::schedule(n, 4096, 4096, 0);
         let eighth = calls.len() / 8;
         same_run(n, &calls, 272, 4096, calls.len());
-        let [ours, rust, by_value, first, but_last] = least([
-            &mut again(proved::run, n, &calls, 4096),
-            &mut again(register::run, n, &calls, 4096),
-            &mut again(register::run_by_value, n, &calls, 4096),
-            &mut again(proved::run, n, &calls[..eighth], 4096),
-            &mut again(proved::run, n, &calls[..calls.len() - eighth], 4096),
-        ]);
+        let [ours, rust, by_value, first, but_last] = least(
+            LONG_SPAN,
+            [
+                &mut again(proved::run, n, &calls, 4096),
+                &mut again(register::run, n, &calls, 4096),
+                &mut again(register::run_by_value, n, &calls, 4096),
+                &mut again(proved::run, n, &calls[..eighth], 4096),
+                &mut again(proved::run, n, &calls[..calls.len() - eighth], 4096),
+            ],
+        );
         let all = calls.len() as f64;
         let (first, last) = (first / eighth as f64, (ours - but_last) / eighth as f64);
         println!(
@@ -311,6 +357,7 @@ fn print_registers() {
             ours / by_value,
             last / first
         );
+        ratios.register.take(ours / rust);
         eprintln!("run: {n}");
     }
     println!("\n### Register: the same calls, which use 200 rows, with logs of different lengths: ns per call\n");
@@ -322,7 +369,7 @@ fn print_registers() {
             same_run(n, &calls, 272, rows, calls.len());
             again(proved::run, n, &calls, rows)
         });
-        let times = least([a, b, c, d, e]).map(|t| t / calls.len() as f64);
+        let times = least(SPAN, [a, b, c, d, e]).map(|t| t / calls.len() as f64);
         let cells: String = times.iter().map(|t| format!(" {t:.1} |")).collect();
         println!("| {n} | {} |{cells} {:.2} |", calls.len(), times[4] / times[0]);
         eprintln!("lengths: {n}");
@@ -331,7 +378,9 @@ fn print_registers() {
 }
 
 fn main() {
+    let mut ratios = Ratios { easy: EMPTY, bad: EMPTY, growth: EMPTY, register: EMPTY };
     compare();
-    print_judges();
-    print_registers();
+    print_judges(&mut ratios);
+    print_registers(&mut ratios);
+    print_aims(&ratios);
 }
