@@ -459,7 +459,8 @@ def tickets_in_range(state):
         return True
     if state.moved[0] > state.n:
         return 0 <= state.ticket <= 63
-    return len(state.barred | set(state.own[0])) <= 2 + 3 * state.moved[0]
+    own = {ticket for ticket in state.own[0] if ticket != NONE}  # “None bars nothing.”
+    return len(state.barred | own) <= 2 + 3 * state.moved[0]
 
 
 def in_range(state):

@@ -100,6 +100,12 @@ def write(moved, barred, ticket):
     return name, replace(BEGUN, moved={0: moved, 1: 1}, barred=set(barred), ticket=ticket)
 
 
+def unstamped(moved, barred):
+    """The same where the writer's own stamp is none."""
+    name, state = write(moved, barred, 63)
+    return f'own stamp none, {name}', replace(state, own=[NO_STAMP] * 17)
+
+
 def read(second, moved):
     """Reader 1's attempt and words moved."""
     state = replace(BEGUN, moved={0: 1, 1: moved}, second={1} if second else set())
@@ -129,6 +135,7 @@ RANGES = [
     write(1, range(0, 5), 63), write(1, range(2, 6), 63),
     write(2, range(2, 8), 63), write(2, range(2, 9), 63),
     write(3, range(2, 10), 63),
+    unstamped(1, range(0, 5)), unstamped(1, range(0, 6)),
 ]
 
 

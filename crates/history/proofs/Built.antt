@@ -4,17 +4,17 @@ use native.Mathlib.Omega.{arith}
 use native.Mathlib.Nat.{mul-le-mul-right}
 use native.Mathlib.Decide.{ℕ-discrete, decLt}
 use mathlib.Core.Path.{_≡_, refl, _∙_, sym, ap}
-use mathlib.Core.Bool.{Bool, true, false, not, _&&_, _||_}
+use mathlib.Core.Bool.{Bool, true, false, _&&_, _||_}
 use mathlib.Core.Logic.{_⊎_, inl, inr}
 use mathlib.Core.List.{List, [], _∷_, _++_}
-use lib.Dec.{T, T-not, eqb, ltb, eqb→eq, ltb→lt, lt→ltb, nltb→le}
+use lib.Dec.{T, eqb, ltb, eqb→eq, ltb→lt, lt→ltb}
 use lib.ListN.{length, getD}
 use Rattle.history.specs.History.{History, Read, Write}
 use Rattle.history.proofs.Placement.{Laws, Placement}
 use Rattle.history.specs.Linearization.{Stands, lastWrite, Linearization}
 use Rattle.history.proofs.LastWrite.{last-write-is, last-write-ge}
 use Rattle.words.specs.Choice.{pick}
-use Rattle.words.proofs.Laws.Choice.{pick-T, eq→T, and-T, T-left, T-right}
+use Rattle.words.proofs.Laws.Choice.{eq→T, and-T, T-left, T-right}
 use Rattle.history.proofs.Rising.{stands-left, stands-right, stands-cases, Rising, rising-lower, rising-upper, rising-append, rising-lt, rising-before}
 use Rattle.history.specs.Sweep.{isRead}
 use Rattle.history.specs.Listing.{behind, isListed, group, build}

@@ -1,21 +1,19 @@
 -- The judge's order is the one that the document describes, and there is no other.
-use Prim.Native.Nat.{ℕ, suc, zero, _≤_, _<_, _+_, _*_}
+use Prim.Native.Nat.{ℕ, suc, _≤_, _<_, _*_}
 use native.Mathlib.Omega.{arith}
 use native.Mathlib.Nat.{mul-le-mul-right}
-use native.Mathlib.Decide.{ℕ-discrete, decLt}
-use mathlib.Core.Path.{_≡_, refl, _∙_, sym, ap}
+use native.Mathlib.Decide.{decLt}
+use mathlib.Core.Path.{_≡_, _∙_, sym, ap}
 use mathlib.Core.Logic.{_⊎_, inl, inr, _≢_}
-use mathlib.Core.List.{List, [], _∷_, _++_}
-use lib.ListN.{length, getD}
+use mathlib.Core.List.{List}
 use Rattle.history.specs.History.{History, Read, Write}
 use Rattle.history.proofs.Placement.{Laws, Placement}
 use Rattle.history.specs.Linearization.{Stands, lastWrite, Linearization}
 use Rattle.history.proofs.LastWrite.{index, index-at, last-write-is, last-write-ge}
-use Rattle.history.proofs.Rising.{Rising}
 use Rattle.history.specs.Sweep.{place}
 use Rattle.history.proofs.Least.{sound, least, complete}
-use Rattle.history.specs.Listing.{behind, build}
-use Rattle.history.proofs.Built.{key, key-write, key-read, lex, lex′, behind-only, behind-has, build-rising, ordered, only, has-read, has-write, last-place, key-by, build-needed}
+use Rattle.history.specs.Listing.{build}
+use Rattle.history.proofs.Built.{key, key-write, key-read, lex, lex′, behind-has, build-rising, ordered, only, has-read, has-write, last-place, key-by, build-needed}
 use Rattle.history.proofs.FromOrder.{placeIn, placed, rise, mono}
 use Rattle.history.proofs.Unique.{rising-same, rising-of}
 use Rattle.history.specs.Earliest.{Earliest}

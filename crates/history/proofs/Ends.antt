@@ -1,15 +1,14 @@
 -- The end of an operation: the next row of its processor.
-use Prim.Native.Nat.{ℕ, suc, zero, _≤_, _<_, _+_, _-_}
+use Prim.Native.Nat.{ℕ, suc, zero, _≤_, _<_, _-_}
 use native.Mathlib.Omega.{arith}
 use native.Mathlib.Decide.{decLt}
-use mathlib.Core.Path.{_≡_, refl, _∙_, sym, ap}
+use mathlib.Core.Path.{_≡_, refl, _∙_}
 use mathlib.Core.Bool.{Bool}
 use mathlib.Core.Logic.{_≢_}
 use mathlib.Core.List.{List}
-use lib.Dec.{T, eqb, eqb→eq}
+use lib.Dec.{eqb, eqb→eq}
 use lib.ListN.{length}
 use Rattle.words.proofs.Laws.Choice.{eq→T}
-use Rattle.history.specs.Search.{first}
 use Rattle.history.proofs.Search.{first-ge, first-le, first-passes, first-least, first-is}
 use Rattle.history.specs.Rows.{processorAt}
 use Rattle.history.specs.History.{nextOf, endAt}

@@ -1,13 +1,11 @@
 -- The floors of the sweep, by their recursion.
-use Prim.Native.Nat.{ℕ, suc, zero, _≤_, _<_, _+_, _-_, max}
+use Prim.Native.Nat.{ℕ, suc, zero, _≤_, _-_, max}
 use native.Mathlib.Omega.{arith}
-use mathlib.Core.Path.{_≡_, refl, _∙_, sym, ap}
-use mathlib.Core.Bool.{Bool, true, false, not, _&&_}
-use mathlib.Core.List.{List, [], _∷_, _++_}
-use lib.Dec.{T, T-not, eqb, leb, ltb, eqb→eq, eqb-refl}
+use mathlib.Core.Path.{_≡_, refl, _∙_}
+use mathlib.Core.List.{[]}
 use native.Mathlib.Decide.{ℕ-discrete}
 use lib.ListN.{length, getD, length-append, List·getD-append}
-use lib.Seq.{getD-append-seam, getD-at}
+use lib.Seq.{getD-at}
 use Rattle.history.specs.History.{History}
 use Rattle.history.specs.Sweep.{adds, floors, floor}
 

@@ -1,12 +1,12 @@
 -- An order gives a placement: each read behind the lastWrite write before it.
-use Prim.Native.Nat.{ℕ, suc, zero, _≤_, _<_, _+_}
+use Prim.Native.Nat.{ℕ, _≤_, _<_}
 use native.Mathlib.Omega.{arith}
 use native.Mathlib.Decide.{ℕ-discrete, decLt}
-use mathlib.Core.Path.{_≡_, refl, _∙_, sym, ap}
+use mathlib.Core.Path.{_≡_, ap}
 use mathlib.Core.Logic.{_⊎_, inl, inr}
-use mathlib.Core.List.{List, [], _∷_}
-use lib.ListN.{length, getD}
-use Rattle.history.specs.History.{History, Read, Write}
+use mathlib.Core.List.{List}
+use lib.ListN.{length}
+use Rattle.history.specs.History.{History, Read}
 use Rattle.history.proofs.Placement.{Laws, Placement}
 use Rattle.history.specs.Linearization.{Stands, lastWrite, Linearization}
 use Rattle.history.proofs.LastWrite.{index, index-at, last-write-is, last-write-ge}

@@ -1,22 +1,18 @@
 -- A log with one row more.
 use Prim.Native.Nat.{ℕ, suc, zero, _≤_, _<_, _+_, _-_, _/_, _%_, _^_}
 use native.Mathlib.Omega.{arith}
-use native.Mathlib.Decide.{ℕ-discrete, decLt}
-use mathlib.Core.Path.{_≡_, refl, _∙_, sym, ap}
-use mathlib.Core.Bool.{Bool, true, false, not, _&&_, _||_}
-use mathlib.Core.Logic.{_⊎_, inl, inr, _≢_}
+use native.Mathlib.Decide.{decLt}
+use mathlib.Core.Path.{_≡_, refl, _∙_, sym}
+use mathlib.Core.Bool.{Bool, _&&_}
+use mathlib.Core.Logic.{_≢_}
 use mathlib.Core.List.{List, [], _∷_, _++_}
-use lib.Dec.{T, T-not, eqb, leb, ltb, eqb→eq, ltb→lt, lt→ltb}
+use lib.Dec.{T, ltb, ltb→lt, lt→ltb}
 use lib.ListN.{length, getD, List·getD-append, length-append}
 use lib.Seq.{getD-append-seam}
-use Rattle.history.specs.History.{History, Read, nextOf, eventAt, endAt, historyOf}
-use Rattle.history.proofs.Placement.{Laws, Placement}
-use Rattle.words.specs.Choice.{pick}
-use Rattle.words.proofs.Laws.Choice.{pick-T, eq→T, and-T, T-left, T-right}
-use Rattle.history.specs.Search.{first}
-use Rattle.history.proofs.Search.{first-ge, first-le, first-passes, first-least, first-is}
-use Rattle.history.proofs.Ends.{Next, fin-of, fin-next, fin-le, fin-none, fin-open}
-use Rattle.history.specs.Rows.{kindAt, processorAt, valueAt, zeroAt, beginsAt}
+use Rattle.history.specs.History.{eventAt, endAt}
+use Rattle.words.proofs.Laws.Choice.{and-T, T-left, T-right}
+use Rattle.history.proofs.Ends.{Next, fin-of, fin-next, fin-none, fin-open}
+use Rattle.history.specs.Rows.{kindAt, processorAt, valueAt}
 use Rattle.history.specs.WellFormed.{openAt, headOk, rowOk, all, wellFormed}
 
 abbrev pub grown : List ℕ → ℕ → List ℕ
@@ -82,10 +78,6 @@ module _ (log : List ℕ) (x : ℕ) where
       go : (j : ℕ) → b < j → j < length (grown log x) → Dec (j < length log) → processorAt (grown log x) j ≢ processorAt (grown log x) b
       go j y z (yes d) = rw (grown-proc j d, grown-proc b a) (fin-none log b r c j y d)
       go j y z (no d) = λ w. let e : j ≡ length log = omega (arith, grown-length) in s (rw (← e) w ∙ grown-proc b a)
-
-  grown-zero : (k : ℕ) → k < length log → zeroAt (grown log x) k ≡ zeroAt log k
-  unfolding zeroAt
-  grown-zero k a = rw (grown-at k a)
 
   grown-row : (k : ℕ) → 0 < length log → k < length log → rowOk (grown log x) k ≡ rowOk log k
   unfolding rowOk

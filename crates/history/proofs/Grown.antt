@@ -1,15 +1,14 @@
 -- A placement of a log with one row more.
-use Prim.Native.Nat.{ℕ, suc, zero, _≤_, _<_, _+_, _-_}
+use Prim.Native.Nat.{ℕ, suc, zero, _≤_, _<_, _-_}
 use native.Mathlib.Omega.{arith}
 use native.Mathlib.Decide.{ℕ-discrete, decLt}
-use mathlib.Core.Path.{_≡_, refl, _∙_, sym, ap}
-use mathlib.Core.Logic.{_⊎_, inl, inr, _≢_}
-use mathlib.Core.List.{List, [], _∷_, _++_}
-use lib.ListN.{length, getD}
-use Rattle.history.specs.History.{History, Read, eventAt, endAt, historyOf}
+use mathlib.Core.Path.{_≡_, _∙_, sym, ap}
+use mathlib.Core.List.{List}
+use lib.ListN.{length}
+use Rattle.history.specs.History.{History, Read, endAt, historyOf}
 use Rattle.history.proofs.Placement.{Laws, Placement}
-use Rattle.history.specs.Rows.{kindAt, processorAt, valueAt}
-use Rattle.history.proofs.Grow.{grown, grown-length, grown-kindOf, grown-proc, grown-val, grown-fin, ends-now, still-open}
+use Rattle.history.specs.Rows.{processorAt, valueAt}
+use Rattle.history.proofs.Grow.{grown, grown-length, grown-kindOf, grown-val, grown-fin, ends-now, still-open}
 
 -- What the place q of a read asks that ends at the log's next row.
 pub record Fits (h : History) (p : ℕ → ℕ) (r v q : ℕ) : Type 0 where

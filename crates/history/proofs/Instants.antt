@@ -1,14 +1,14 @@
 -- An order gives instants, and instants give an order.
 use Prim.Native.Nat.{ℕ, zero, suc, _+_, _*_, _≤_, _<_, max}
-use mathlib.Core.Path.{_≡_, refl, sym, ap, _∙_}
+use mathlib.Core.Path.{_≡_, refl, ap}
 use mathlib.Core.Logic.{_⊎_, inl, inr, _≢_}
 use mathlib.Core.List.{List}
 use native.Mathlib.Nat.{mul-le-mul-right}
 use native.Mathlib.Decide.{decLt, ℕ-discrete}
 use native.Mathlib.Omega.{arith}
-use lib.ListN.{length, getD}
+use lib.ListN.{getD}
 use Rattle.history.specs.History.{History, Write, Read, Precedes}
-use Rattle.history.specs.Linearization.{Stands, lastWrite, Linearization}
+use Rattle.history.specs.Linearization.{Stands, Linearization}
 use Rattle.history.specs.Instants.{unit, Instants}
 use Rattle.history.proofs.Placement.{Laws}
 

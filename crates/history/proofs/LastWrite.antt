@@ -1,18 +1,17 @@
 -- The lastWrite write among the first entries of a list.
-use Prim.Native.Nat.{ℕ, suc, zero, _≤_, _<_, _+_}
+use Prim.Native.Nat.{ℕ, suc, zero, _≤_, _<_}
 use native.Mathlib.Omega.{arith}
-use native.Mathlib.Decide.{ℕ-discrete, decLt}
-use mathlib.Core.Path.{_≡_, refl, _∙_, sym, ap}
-use mathlib.Core.Bool.{Bool, true, false, not}
+use native.Mathlib.Decide.{ℕ-discrete}
+use mathlib.Core.Path.{_≡_, refl}
+use mathlib.Core.Bool.{not}
 use mathlib.Core.Logic.{_⊎_, inl, inr}
 use mathlib.Core.List.{List, [], _∷_}
-use lib.Dec.{T, T-not, eqb, eqb→eq, eqb-refl}
+use lib.Dec.{T, T-not, eqb, eqb→eq}
 use lib.ListN.{length, getD}
-use Rattle.history.specs.History.{History, Read, Write}
-use Rattle.history.proofs.Placement.{Laws, Placement}
+use Rattle.history.specs.History.{History}
 use Rattle.words.specs.Choice.{pick}
 use Rattle.words.proofs.Laws.Choice.{pick-T, eq→T}
-use Rattle.history.specs.Linearization.{Stands, lastWrite, Linearization}
+use Rattle.history.specs.Linearization.{Stands, lastWrite}
 
 -- The place of x in l.
 unfoldable pub index : List ℕ → ℕ → ℕ

@@ -1,17 +1,14 @@
 -- The sweep's placement is the least one, and it is one wherever there is one.
-use Prim.Native.Nat.{ℕ, suc, zero, _≤_, _<_, _+_, _-_, max}
+use Prim.Native.Nat.{ℕ, suc, zero, _≤_, _<_, _-_}
 use native.Mathlib.Omega.{arith}
 use native.Mathlib.Decide.{ℕ-discrete, decLt}
-use mathlib.Core.Path.{_≡_, refl, _∙_, sym, ap}
-use mathlib.Core.Bool.{Bool, true, false, not, _&&_}
-use lib.Dec.{T, T-not, eqb, leb, ltb, eqb→eq, eqb-refl}
-use Rattle.words.specs.Choice.{pick}
+use mathlib.Core.Path.{_≡_, _∙_, ap}
+use lib.Dec.{T, eqb, eqb→eq}
 use Rattle.words.proofs.Laws.Choice.{pick-T, eq→T, and-T, T-left, T-right}
 use Rattle.history.specs.History.{History, Read}
 use Rattle.history.proofs.Placement.{Laws, Placement}
-use Rattle.history.specs.Search.{first}
 use Rattle.history.proofs.Search.{first-ge, first-passes, first-least}
-use Rattle.history.specs.Sweep.{floors, isSource, seek, placeAt, adds, floor, place}
+use Rattle.history.specs.Sweep.{floors, isSource, placeAt, adds, floor, place}
 use Rattle.history.proofs.Floors.{floor-suc}
 
 -- What the test of a source says.

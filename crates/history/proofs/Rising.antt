@@ -1,8 +1,8 @@
 -- Lists by place: what stands in an appended list, and lists whose entries rise by a key.
-use Prim.Native.Nat.{ℕ, suc, zero, _≤_, _<_, _+_, _*_}
+use Prim.Native.Nat.{ℕ, suc, zero, _≤_, _<_, _+_}
 use native.Mathlib.Omega.{arith}
 use native.Mathlib.Decide.{decLt}
-use mathlib.Core.Path.{_≡_, refl, _∙_, sym, ap}
+use mathlib.Core.Path.{_≡_, _∙_, sym, ap}
 use mathlib.Core.Logic.{_⊎_, inl, inr}
 use mathlib.Core.List.{List, [], _∷_, _++_}
 use lib.ListN.{length, getD, length-append, List·getD-append}

@@ -6,7 +6,6 @@ use mathlib.Core.Path.{_≡_, refl}
 use mathlib.Core.Bool.{Bool, true, false, not}
 use native.Mathlib.Numerals.{add-one}
 use lib.Dec.{T, T-not}
-use Rattle.words.specs.Choice.{pick}
 use Rattle.words.proofs.Laws.Choice.{pick-T}
 use Rattle.history.specs.Search.{first}
 

@@ -1,13 +1,12 @@
 -- The test of a source, row by row.
-use Prim.Native.Nat.{ℕ, suc, zero, _<_, _/_, _%_, _^_}
-use native.Mathlib.Omega.{arith}
+use Prim.Native.Nat.{ℕ, suc, zero}
 use mathlib.Core.Path.{_≡_, refl}
 use mathlib.Core.Logic.{_≢_}
-use mathlib.Core.Bool.{Bool, true, false, not, _&&_}
+use mathlib.Core.Bool.{false}
 use mathlib.Core.List.{List}
-use lib.Dec.{T, T-not, eqb, eqb→eq}
+use lib.Dec.{eqb, eqb→eq}
 use lib.ListN.{getD}
-use Rattle.history.specs.History.{History, eventAt, historyOf}
+use Rattle.history.specs.History.{eventAt, historyOf}
 use Rattle.history.specs.Sweep.{isSource}
 use Rattle.history.specs.Rows.{kindOf, valueOf, kindAt, valueAt}
 use Rattle.words.proofs.Laws.Choice.{not→false}

@@ -8,10 +8,10 @@ use lib.Dec.{T}
 use lib.ListN.{length}
 use Rattle.history.specs.WellFormed.{wellFormed}
 use Rattle.history.specs.History.{History, historyOf, Write, Read, Precedes}
-use Rattle.history.specs.Linearization.{Stands, lastWrite, Linearization, Orders}
+use Rattle.history.specs.Linearization.{Stands, lastWrite, Orders}
 use Rattle.history.specs.Earliest.{Earliest}
 use Rattle.history.specs.Instants.{Instants}
-use Rattle.history.specs.Sweep.{place, missing}
+use Rattle.history.specs.Sweep.{missing}
 use Rattle.history.specs.Listing.{listing}
 use Rattle.history.specs.Swept.{Swept}
 use Rattle.history.proofs.Placement.{Laws}

@@ -1,15 +1,10 @@
 -- There is one order as the document wants it.
-use Prim.Native.Nat.{ℕ, suc, zero, _≤_, _<_, _+_, _*_}
+use Prim.Native.Nat.{ℕ, suc, zero, _≤_, _<_}
 use native.Mathlib.Omega.{arith}
-use native.Mathlib.Decide.{ℕ-discrete, decLt}
-use mathlib.Core.Path.{_≡_, refl, _∙_, sym, ap}
-use mathlib.Core.Logic.{_⊎_, inl, inr, _≢_}
-use mathlib.Core.List.{List, [], _∷_, _++_}
-use lib.ListN.{length, getD}
-use lib.Seq.{ext-getD}
-use Rattle.history.specs.History.{History, Read, Write}
-use Rattle.history.proofs.Placement.{Laws, Placement}
-use Rattle.history.specs.Linearization.{Stands, lastWrite, Linearization}
+use mathlib.Core.Path.{_≡_, refl, sym, ap}
+use mathlib.Core.Logic.{_⊎_, inl, inr}
+use mathlib.Core.List.{List, [], _∷_}
+use Rattle.history.specs.Linearization.{Stands}
 use Rattle.history.proofs.Rising.{Rising, rising-lt, rising-from}
 
 -- An entry with a larger key than the first stands behind it.

@@ -1,17 +1,14 @@
 -- What the judge's answer means.
-use Prim.Native.Nat.{ℕ, suc, zero, _≤_, _<_, _+_}
+use Prim.Native.Nat.{ℕ, _≤_, _<_}
 use native.Mathlib.Omega.{arith}
 use native.Mathlib.Decide.{decLt}
-use mathlib.Core.Path.{_≡_, refl}
-use mathlib.Core.Bool.{_&&_}
+use mathlib.Core.Path.{_≡_}
 use mathlib.Core.List.{List}
-use lib.Dec.{T, eqb, leb, ltb, leb→le, le→leb}
-use lib.ListN.{length}
+use lib.Dec.{T, leb→le, le→leb}
 use Rattle.history.specs.History.{History, Read}
 use Rattle.history.proofs.Placement.{Laws, Placement}
 use Rattle.history.specs.Linearization.{Linearization}
 use Rattle.words.proofs.Laws.Choice.{and-T, T-left, T-right}
-use Rattle.history.specs.Search.{first}
 use Rattle.history.proofs.Search.{first-le, first-passes, first-least}
 use Rattle.history.specs.Sweep.{place, isRead, fails, missing}
 use Rattle.history.proofs.Least.{Found, sound, least, complete}

@@ -1,20 +1,20 @@
 -- A well-formed log's history meets the laws of histories.
-use Prim.Native.Nat.{ℕ, suc, zero, _≤_, _<_, _+_, _-_}
+use Prim.Native.Nat.{ℕ, suc, zero, _≤_, _<_, _-_}
 use native.Mathlib.Omega.{arith}
 use native.Mathlib.Decide.{ℕ-discrete, decLt}
-use mathlib.Core.Path.{_≡_, refl, _∙_, sym, ap}
-use mathlib.Core.Bool.{Bool, true, false, not, _&&_, _||_}
-use mathlib.Core.Logic.{_⊎_, inl, inr, _≢_}
-use mathlib.Core.List.{List, [], _∷_}
-use lib.Dec.{T, T-not, eqb, leb, ltb, eqb→eq, ltb→lt}
+use mathlib.Core.Path.{_≡_, refl, _∙_, sym}
+use mathlib.Core.Bool.{Bool, true, false, _||_}
+use mathlib.Core.Logic.{_⊎_, inl, inr}
+use mathlib.Core.List.{List}
+use lib.Dec.{T, eqb, ltb, eqb→eq, ltb→lt}
 use lib.ListN.{length, getD, List·getD-eq-default}
-use Rattle.history.specs.History.{History, nextOf, eventAt, endAt, historyOf}
+use Rattle.history.specs.History.{nextOf, eventAt, endAt, historyOf}
 use Rattle.history.proofs.Placement.{Laws}
 use Rattle.words.proofs.Laws.Choice.{eq→T, T-left, T-right}
 use Rattle.history.specs.Search.{first}
 use Rattle.history.proofs.Search.{first-ge, first-le, first-passes, first-least, first-is}
-use Rattle.history.specs.Rows.{kindAt, processorAt, valueAt, beginsAt}
-use Rattle.history.specs.WellFormed.{openAt, headOk, rowOk, all, wellFormed}
+use Rattle.history.specs.Rows.{kindAt, processorAt, beginsAt}
+use Rattle.history.specs.WellFormed.{openAt, headOk, rowOk, wellFormed}
 use Rattle.history.proofs.Operations.{RowOk, row→, all-at, Opened, open-le, open→, →open}
 
 pub begin→ : (log : List ℕ) (k : ℕ) → T (beginsAt log k) → (kindAt log k ≡ 1) ⊎ (kindAt log k ≡ 3)

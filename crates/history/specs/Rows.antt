@@ -1,6 +1,6 @@
 -- The rows of a log. "Row 0: kind 5, n, start reading. Then 1 write begins (its reading), 2 write ends (0), 3 read begins (0),
 -- 4 read ends (its result)."
-use Prim.Native.Nat.{ℕ, suc, zero}
+use Prim.Native.Nat.{ℕ}
 use mathlib.Core.Bool.{Bool, _||_}
 use mathlib.Core.List.{List}
 use lib.Dec.{eqb}

@@ -1,18 +1,18 @@
 -- Fields and lines, read place by place.
-use Prim.Native.Nat.{ℕ, suc, _+_, _-_, _*_, _^_, _≤_, _<_}
+use Prim.Native.Nat.{ℕ, _+_, _-_, _*_, _^_, _≤_, _<_}
 use native.Mathlib.Omega.{arith}
 use native.Mathlib.Numerals.{add-one}
 use mathlib.Core.Path.{_≡_, refl, sym, ap, _∙_}
 use mathlib.Core.Logic.{_≢_}
 use mathlib.Core.Bool.{Bool, true, false, _&&_}
 use mathlib.Core.List.{List, [], _∷_}
-use lib.Dec.{eqb, leb, ltb}
+use lib.Dec.{eqb, ltb}
 use lib.ListN.{length, getD, take, drop, length-drop, drop-of-length-le, List·getD-eq-default}
 use lib.Seq.{drop-cons, take-all}
 use borrow.Author.Tests.{eq-eqb, ne-eqb, le-ltb, lt-ltb}
 use Rattle.words.specs.Choice.{pick}
-use Rattle.words.proofs.Laws.Choice.{lt-ind, pick-ind}
-use Rattle.lines.specs.Fields.{before, placeOf, isDigit, allDigits, valueFrom, notEmpty, none, numberIn, readersIn, startIn, kindIn, callIn}
+use Rattle.words.proofs.Laws.Choice.{lt-ind}
+use Rattle.lines.specs.Fields.{before, placeOf, isDigit, allDigits, valueFrom, none, numberIn, readersIn, startIn, kindIn, callIn}
 use Rattle.lines.specs.Digits.{digitAfter, digitsAfter}
 
 -- A search from a place on.

@@ -1,19 +1,17 @@
 -- Numbers as digits, and texts put one behind the other.
 use Prim.Native.Nat.{ℕ, zero, suc, _+_, _*_, _/_, _%_, _^_, _≤_, _<_}
 use native.Mathlib.Omega.{arith}
-use native.Mathlib.Numerals.{add-one}
 use mathlib.Core.Path.{_≡_, refl, sym, ap, subst, _∙_}
 use mathlib.Core.Logic.{_≢_}
-use mathlib.Core.Bool.{Bool, true, false, _||_}
-use mathlib.Core.List.{List, [], _∷_, _++_, append-assoc}
+use mathlib.Core.Bool.{true, false, _||_}
+use mathlib.Core.List.{List, [], _∷_, _++_}
 use native.Mathlib.Decide.{decLt}
 use lib.Dec.{eqb, ltb}
 use Rattle.words.specs.declared.row.Row.{Row}
 use Rattle.words.specs.Row.{unpackRow}
 use lib.ListN.{length, take, set, length-append, length-take}
 use lib.Seq.{sets, length-sets}
-use borrow.Author.Tests.{eq-eqb, ne-eqb, le-ltb, lt-ltb}
-use Rattle.words.specs.Choice.{pick}
+use borrow.Author.Tests.{ne-eqb, le-ltb, lt-ltb}
 use Rattle.words.proofs.Laws.Choice.{lt-two, pick-yes}
 use Rattle.lines.specs.Listing.{decimalIn, decimal, field, letterOf, readerText, readingText, lineOf, rowLine, Puts}
 

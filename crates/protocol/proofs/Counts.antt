@@ -1,15 +1,13 @@
 -- The sub-step that follows a list: its number, when the operation ends, and the new ticket.
-use Prim.Native.Nat.{ℕ, zero, suc, _+_, _-_, _*_, _≤_, _<_}
-use mathlib.Core.Path.{_≡_, refl, sym, subst, ap, _∙_}
-use mathlib.Core.Logic.{_≢_}
-use mathlib.Core.List.{List, [], _∷_, _++_}
+use Prim.Native.Nat.{ℕ, _+_, _-_, _*_, _≤_, _<_}
+use mathlib.Core.Path.{_≡_, refl, subst, ap, _∙_}
+use mathlib.Core.List.{List, _++_}
 use mathlib.Core.Bool.{Bool, true, false}
 use native.Mathlib.Omega.{arith}
 use native.Mathlib.Nat.{mod-eq-of-lt}
 use lib.ListN.{length, getD, length-set, List·getD-append}
 use lib.Seq.{getD-set-same}
-use lib.Dec.{ltb, leb, eqb}
-use borrow.Author.Tests.{eq-eqb, ne-eqb, le-leb}
+use borrow.Author.Tests.{ne-eqb, le-leb}
 use Rattle.words.specs.declared.cell.Cell.{Cell}
 use Rattle.words.specs.Choice.{pick}
 use Rattle.words.specs.Cell.{packCell, unpackCell}
@@ -19,11 +17,10 @@ use Rattle.words.proofs.Laws.Update.{upd-same}
 use Rattle.words.proofs.Laws.Cell.{packed-cur}
 use Rattle.words.proofs.Laws.Index.{index-low}
 use Rattle.protocol.specs.declared.State.{State}
-use Rattle.protocol.specs.declared.Answer.the-variants.{Moved}
 use Rattle.protocol.specs.Table.{view, store}
 use Rattle.protocol.specs.State.{readerAt}
 use Rattle.protocol.specs.InRange.{ReaderInRange}
-use Rattle.protocol.specs.Reference.{Operation, idle, open-with, Model, isOpen, newTicket, excludedTickets, isIn, Turn, writeTurn, failed, attemptTurn, resultTurn, readTurn, Told, declined, movesWrite, movesRead, step, told}
+use Rattle.protocol.specs.Reference.{open-with, Model, isOpen, newTicket, excludedTickets, Turn, writeTurn, failed, attemptTurn, resultTurn, readTurn, Told, movesWrite, movesRead, step, told}
 use Rattle.protocol.specs.Runs.{callOf}
 use Rattle.protocol.specs.Whole.{Moves, NewTicket}
 use Rattle.protocol.proofs.NewTicket.{barred-length}

@@ -1,18 +1,17 @@
 -- A sub-step moves one word; a call sets at most one cell and one row; set-up writes its cells and row 0.
 use Prim.Native.Nat.{ℕ, _+_, _-_, _*_, _≤_, _<_}
-use mathlib.Core.Path.{_≡_, refl, sym, ap, subst, _∙_}
-use mathlib.Core.Logic.{_≢_}
+use mathlib.Core.Path.{_≡_, refl, sym, ap, _∙_}
 use mathlib.Core.List.{List, []}
 use mathlib.Core.Bool.{Bool, true, false, _&&_}
 use native.Mathlib.Omega.{arith}
-use lib.ListN.{length, getD, set, drop}
+use lib.ListN.{length, set, drop}
 use lib.Seq.{drop-set-lt}
 use lib.Dec.{ltb, leb, eqb}
-use borrow.Author.Tests.{ltb-true, ltb-false, eqb-true, eqb-false, leb-true}
+use borrow.Author.Tests.{ltb-true, ltb-false, eqb-false}
 use Rattle.words.specs.Choice.{pick}
 use Rattle.words.specs.Cell.{unpackCell}
 use Rattle.words.specs.Index.{index, Pair}
-use Rattle.words.proofs.Laws.Choice.{pick-ind, le-ind, eq-ind, left, right}
+use Rattle.words.proofs.Laws.Choice.{pick-ind, le-ind, eq-ind}
 use Rattle.words.proofs.Laws.Index.{index-low}
 use Rattle.protocol.specs.declared.Writer.{Writer}
 use Rattle.protocol.specs.declared.Reader.{Reader}
@@ -24,9 +23,9 @@ use Rattle.protocol.specs.Counting.{one}
 use Rattle.protocol.proofs.Counting.{count-some}
 use Rattle.protocol.specs.Table.{other}
 use Rattle.protocol.specs.State.{readerAt, openIn, sizesOk, stateOk}
-use Rattle.protocol.specs.InRange.{InRange, WriterInRange, ReaderInRange}
+use Rattle.protocol.specs.InRange.{InRange}
 use Rattle.protocol.specs.SetUp.{Outcome, refused, startRow, noState, setUpOf}
-use Rattle.protocol.specs.Write.{WriteStep, writerReads, writeStep}
+use Rattle.protocol.specs.Write.{WriteStep, writeStep}
 use Rattle.protocol.specs.Read.{ReadStep, valueIn, counted, looksFirst, looksAgain, looksAtOther, looksThird, attemptStep, resultStep, since, readStep}
 use Rattle.protocol.specs.Calls.{rowOf, beginWriteOf, beginReadOf, stepWriter, stepReader, stepOf}
 use Rattle.protocol.specs.Reference.{Call, write, read, step}

@@ -1,18 +1,16 @@
 -- Excluded tickets as a number: the order does not matter, and each adds at most one.
 use Prim.Native.Nat.{ℕ, zero, suc, _+_, _-_, _*_, _/_, _%_, _^_, _≤_, _<_, max}
-use mathlib.Core.Path.{_≡_, refl, sym, subst, ap, _∙_}
-use mathlib.Core.Logic.{_≢_, _⊎_, inl, inr}
+use mathlib.Core.Path.{_≡_, refl, sym, _∙_}
 use mathlib.Core.Bool.{Bool, true, false}
 use native.Mathlib.Omega.{arith}
 use native.Mathlib.Nat.{pow-suc, pow-le-pow-right}
 use lib.Bits.{bitOr, or-step, or-zero-r}
 use lib.Count.{ones}
-use lib.Dec.{ltb, leb, eqb}
-use borrow.Author.Tests.{ltb-true, ltb-false, lt-ltb, le-ltb}
+use lib.Dec.{ltb}
+use borrow.Author.Tests.{ltb-true}
 use Rattle.words.specs.Choice.{pick}
-use Rattle.words.proofs.Laws.Choice.{pick-ind, pick-yes, pick-no}
-use Rattle.protocol.specs.Tickets.{bit, withTicket, smallestOut}
-use Rattle.protocol.proofs.Tickets.{ones-or, bit-or, bit-same, bit-other, first-le-ones}
+use Rattle.protocol.specs.Tickets.{withTicket}
+use Rattle.protocol.proofs.Tickets.{ones-or}
 
 half : (x m : ℕ) → m < 2 → (x * 2 + m) / 2 ≡ x
 half x m h = omega arith

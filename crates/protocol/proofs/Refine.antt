@@ -1,42 +1,39 @@
 -- The register against the book: the relation, and each call.
-use Prim.Native.Nat.{ℕ, zero, suc, _+_, _-_, _*_, _≤_, _<_}
+use Prim.Native.Nat.{ℕ, suc, _+_, _-_, _*_, _≤_, _<_}
 use mathlib.Core.Path.{_≡_, refl, sym, subst, ap, _∙_}
-use mathlib.Core.Logic.{_≢_, _⊎_, inl, inr}
+use mathlib.Core.Logic.{_≢_}
 use mathlib.Core.List.{List, [], _∷_, _++_, append-assoc}
-use mathlib.Core.Bool.{Bool, true, false, not, _&&_, _||_}
+use mathlib.Core.Bool.{Bool, true, false, _&&_}
 use native.Mathlib.Omega.{arith}
 use native.Mathlib.Decide.{ℕ-discrete}
-use native.Mathlib.Numerals.{add-one}
-use lib.ListN.{length, getD, set, drop, length-set, length-append}
+use lib.ListN.{length, getD, set, drop, length-append}
 use lib.Seq.{getD-set-same, getD-set-other, set-append-seam, drop-cons}
-use lib.Dec.{ltb, leb, eqb}
+use lib.Dec.{leb}
 use borrow.Author.Tests.{leb-true}
 use Rattle.protocol.specs.declared.Writer.{Writer}
 use Rattle.protocol.specs.declared.Reader.{Reader}
 use Rattle.protocol.specs.declared.State.{State}
-use Rattle.protocol.specs.declared.Answer.{Answer}
-use Rattle.protocol.specs.declared.Answer.the-variants.{Accepted, Moved, Refused}
+use Rattle.protocol.specs.declared.Answer.the-variants.{Moved}
 use Rattle.words.specs.Choice.{pick}
-use Rattle.protocol.specs.Counting.{one, count}
+use Rattle.protocol.specs.Counting.{one}
 use Rattle.words.specs.Update.{upd}
-use Rattle.words.proofs.Laws.Choice.{pick-ind, pick-two, pick-both, pick-yes, pick-no, lt-two, eq-two, le-two, left, right, never}
+use Rattle.words.proofs.Laws.Choice.{pick-ind, pick-two, pick-both, pick-yes, pick-no, eq-two, le-two, left, right, never}
 use Rattle.protocol.proofs.Counting.{count-same, count-some}
 use Rattle.words.proofs.Laws.Update.{upd-same, upd-other}
 use Rattle.protocol.specs.Calls.{rowOf, withWriter, withReader, writerBegins, readerBegins, beginWriteOf, beginReadOf, stepWriter, stepReader, stepOf}
-use Rattle.protocol.specs.InRange.{InRange, WriterInRange, ReaderInRange}
 use Rattle.protocol.proofs.Range.{range-test}
-use Rattle.protocol.proofs.Keep.{Good, Stays, call-stays}
+use Rattle.protocol.proofs.Keep.{Good}
 use Rattle.protocol.specs.State.{blank, readerAt, openIn, stateOk}
 use Rattle.protocol.specs.Read.{valueIn}
 use Rattle.protocol.specs.Write.{writeStep}
 use Rattle.protocol.specs.Read.{readStep}
 use Rattle.protocol.specs.SetUp.{Outcome, refused}
-use Rattle.protocol.specs.Reference.{Call, write, read, step, Operation, idle, open-with, Model, Turn, isOpen, writeTurn, readTurn, Told, openCount, declined, begins, entered, movesWrite, movesRead, told}
+use Rattle.protocol.specs.Reference.{Call, write, read, step, Operation, idle, open-with, Model, Turn, isOpen, writeTurn, readTurn, Told, openCount, declined, begins, movesWrite, movesRead, told}
 use Rattle.protocol.specs.Runs.{callOf}
 use Rattle.words.specs.declared.stamp.Stamp.{Stamp}
 use Rattle.protocol.proofs.Smallest.{bars}
 use Rattle.protocol.proofs.WriterRel.{WRel, WriterRel, WTurnRel, turn-w-rel}
-use Rattle.protocol.proofs.ReaderRel.{Trying, RRel, ReaderRel, RTurnRel, reads, rel-opened}
+use Rattle.protocol.proofs.ReaderRel.{RRel, ReaderRel, RTurnRel, rel-opened}
 use Rattle.protocol.proofs.ReaderTurn.{turn-r-rel}
 use Rattle.protocol.specs.declared.Refusal.{Refusal}
 use Rattle.protocol.specs.declared.Refusal.the-variants.{Range, Processor, Busy, Full, Idle}

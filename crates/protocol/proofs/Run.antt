@@ -8,14 +8,11 @@ use lib.ListN.{length, getD, set, drop, replicate, length-set, length-append, le
 use lib.Seq.{drop-at}
 use lib.Dec.{leb, eqb}
 use borrow.Author.Tests.{leb-true}
-use Rattle.words.specs.declared.stamp.Stamp.{Stamp}
-use Rattle.words.specs.Choice.{pick}
 use Rattle.words.specs.Stamp.{none}
 use Rattle.words.proofs.Laws.Choice.{pick-ind, le-ind, left, right, never}
 use Rattle.protocol.specs.declared.Reader.{Reader}
 use Rattle.protocol.specs.declared.State.{State}
-use Rattle.protocol.specs.declared.Answer.{Answer}
-use Rattle.protocol.specs.declared.Answer.the-variants.{Accepted, Moved, Refused}
+use Rattle.protocol.specs.declared.Answer.the-variants.{Accepted}
 use Rattle.protocol.specs.declared.Refusal.{Refusal}
 use Rattle.protocol.specs.declared.Refusal.the-variants.{Readers, Cells, Rows}
 use Rattle.protocol.specs.Counting.{count}

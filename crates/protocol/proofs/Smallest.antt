@@ -1,21 +1,19 @@
 -- The smallest ticket outside, by digits and by the list.
-use Prim.Native.Nat.{ℕ, zero, suc, _+_, _-_, _*_, _/_, _%_, _^_, _≤_, _<_, max}
-use mathlib.Core.Path.{_≡_, refl, sym, subst, ap, _∙_}
-use mathlib.Core.Logic.{_≢_, _⊎_, inl, inr}
+use Prim.Native.Nat.{ℕ, zero, suc, _+_, _-_, _*_, _^_, _≤_, _<_, max}
+use mathlib.Core.Path.{_≡_, refl, sym, subst, _∙_}
 use mathlib.Core.List.{List, [], _∷_, _++_}
 use mathlib.Core.Bool.{Bool, true, false, _||_}
 use native.Mathlib.Omega.{arith}
 use native.Mathlib.Decide.{ℕ-discrete}
 use native.Mathlib.Nat.{zero-div}
 use lib.ListN.{length}
-use lib.Bits.{bitOr}
 use lib.Count.{ones}
-use lib.Dec.{ltb, leb, eqb}
-use borrow.Author.Tests.{ltb-true, ltb-false, eq-eqb, ne-eqb}
+use lib.Dec.{ltb, eqb}
+use borrow.Author.Tests.{ltb-false, eq-eqb, ne-eqb}
 use Rattle.words.specs.declared.cell.Cell.{Cell}
 use Rattle.words.specs.Choice.{pick}
 use Rattle.protocol.specs.Counting.{one}
-use Rattle.words.proofs.Laws.Choice.{pick-ind, pick-yes, pick-no, never}
+use Rattle.words.proofs.Laws.Choice.{pick-ind, never}
 use Rattle.protocol.specs.Tickets.{bit, withTicket, smallestOut, withCell}
 use Rattle.protocol.proofs.Tickets.{bit-or, bit-same, bit-other, below-in, first-out, first-le-ones}
 use Rattle.protocol.proofs.NewTicket.{barred-length}

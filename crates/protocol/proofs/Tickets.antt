@@ -1,8 +1,7 @@
 -- Sets of tickets as numbers: membership after a ticket is added, the smallest ticket outside, and how large it can be.
-use Prim.Native.Nat.{ℕ, zero, suc, _+_, _-_, _*_, _/_, _%_, _^_, _≤_, _<_, max, zero-le, suc-le-suc}
-use mathlib.Core.Path.{_≡_, refl, sym, ap, subst, _∙_}
+use Prim.Native.Nat.{ℕ, zero, suc, _+_, _-_, _*_, _/_, _%_, _^_, _≤_, _<_, max, zero-le}
+use mathlib.Core.Path.{_≡_, refl, ap, _∙_}
 use native.Mathlib.Omega.{arith}
-use native.Mathlib.Numerals.{add-one}
 use native.Mathlib.Nat.{pow-suc, mul-comm, div-div-eq-div-mul, div-one, zero-div, one-mul}
 use lib.Bits.{bitOr, or-step, or-shr, or-zero-r}
 use lib.Count.{trailingZeros, under, ones, ones-step}

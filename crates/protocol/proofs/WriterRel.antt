@@ -10,7 +10,6 @@ use lib.Count.{ones}
 use borrow.Author.Tests.{eq-eqb}
 use Rattle.words.specs.declared.stamp.Stamp.{Stamp}
 use Rattle.words.specs.declared.cell.Cell.{Cell}
-use Rattle.words.specs.Choice.{pick}
 use Rattle.words.specs.Index.{Pair}
 use Rattle.words.proofs.Laws.Choice.{pick-yes, lt-two, eq-ind}
 use Rattle.protocol.specs.declared.Writer.{Writer}
@@ -18,7 +17,7 @@ use Rattle.protocol.specs.Table.{view, store, plain}
 use Rattle.protocol.specs.Tickets.{withTicket, smallestOut}
 use Rattle.protocol.specs.State.{excludedBy}
 use Rattle.protocol.specs.InRange.{WriterInRange}
-use Rattle.protocol.specs.Write.{WriteStep, writerReads, ticketOf, writerStores, writerEnds, writeStep}
+use Rattle.protocol.specs.Write.{WriteStep, writerReads, ticketOf, writeStep}
 use Rattle.protocol.specs.Reference.{Operation, idle, open-with, Turn, newTicket, excludedTickets, writeTurn}
 use Rattle.protocol.proofs.Table.{view-front, store-front}
 use Rattle.protocol.proofs.Smallest.{bars, bars-more, New, new-ticket}

@@ -111,6 +111,17 @@ fn try_write(s: State, moved: u8, excluded: u64, ticket: u8) {
     try_state(t);
 }
 
+// The same where the writer's own stamp is none, which excludes nothing.
+fn try_unstamped(s: State, moved: u8, excluded: u64) {
+    print(b"own stamp none, ");
+    let stamp = words::stamp::no_stamp();
+    let mut w = s.writer;
+    w.stamp = stamp;
+    let mut t = s;
+    t.writer = w;
+    try_write(t, moved, excluded, 63);
+}
+
 // Reader 1's open read: its attempt, and the words moved.
 fn try_read(s: State, second: bool, moved: u8) {
     print_with(b"second attempt ", second as u64);
@@ -223,6 +234,8 @@ fn try_barred(s: State) {
     try_write(s, 2, 0xFC, 63);
     try_write(s, 2, 0x1FC, 63);
     try_write(s, 3, 0x3FC, 63);
+    try_unstamped(s, 1, 0x1F);
+    try_unstamped(s, 1, 0x3F);
 }
 
 pub(crate) fn try_all() {

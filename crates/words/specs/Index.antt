@@ -1,5 +1,5 @@
 -- The cells' places in the table, of n readers: the index of the cell from processor i to processor j.
-use Prim.Native.Nat.{ℕ, _+_, _-_, _*_, _≤_, _<_}
+use Prim.Native.Nat.{ℕ, _+_, _-_, _*_, _≤_}
 use mathlib.Core.Logic.{_≢_}
 use lib.Dec.{ltb}
 use Rattle.words.specs.Choice.{pick}

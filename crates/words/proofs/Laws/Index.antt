@@ -1,6 +1,6 @@
 -- The places of the table: what stands where, and that each place is one cell's.
-use Prim.Native.Nat.{ℕ, zero, suc, _+_, _-_, _*_, _/_, _%_, _^_, _≤_, _<_}
-use mathlib.Core.Path.{_≡_, refl, ap, sym, _∙_}
+use Prim.Native.Nat.{ℕ, _+_, _-_, _*_, _/_, _%_, _^_, _≤_, _<_}
+use mathlib.Core.Path.{_≡_, ap, sym, _∙_}
 use mathlib.Core.Logic.{_≢_}
 use native.Mathlib.Nat.{mul-le-mul-left, mul-comm, mul-add, div-add-mod, div-lt-iff-lt-mul, mod-lt}
 use native.Mathlib.Decide.{decLt}

@@ -1,4 +1,3 @@
-use native.Mathlib.Omega.{arith}
 use Rattle.lines.proofs.FieldLaws.{number-rest, call-short, call-letter, call-space, call-large, call-is}
 use mathlib.Core.Path.{_∙_}
 use denote.Ref.{now}

@@ -1,6 +1,5 @@
 use borrow.Author.Needs.{needs}
 use Prim.Native.Nat.{_-_}
-use lib.ListN.{length}
 use Rattle.trials.proofs.same.same.Statement.{statement}
 use Rattle.trials.proofs.same.same.Tie as tie
 
