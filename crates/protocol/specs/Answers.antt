@@ -1,5 +1,6 @@
 -- Document 01's numbers of the answers.
 use Prim.Native.Nat.{ℕ}
+use mathlib.Core.List.{List, [], _∷_}
 use Rattle.protocol.specs.declared.Refusal.{Refusal}
 use Rattle.protocol.specs.declared.Refusal.the-variants.{Readers, Cells, Rows, Range, Processor, Busy, Full, Idle}
 use Rattle.protocol.specs.declared.Answer.{Answer}
@@ -29,3 +30,13 @@ abbrev pub subStepOf : Answer → ℕ
 subStepOf Accepted = 0
 subStepOf (Moved k) = k
 subStepOf (Refused r) = 0
+
+-- both: document 01's number of an answer, 0 where it is no refusal, and the values that come with it
+pub record Reply : Type 0 where
+  pub number : ℕ
+  pub values : List ℕ
+
+abbrev pub reply : Answer → Reply
+reply Accepted = record { number = 0; values = [] }
+reply (Moved k) = record { number = 0; values = k ∷ [] }
+reply (Refused r) = record { number = refusalNumber r; values = [] }

@@ -17,13 +17,18 @@ use Rattle.protocol.specs.declared.Refusal.the-variants.{Readers, Cells, Rows, 
 use Rattle.protocol.specs.Counting.{one}
 use Rattle.protocol.specs.State.{readerAt, openIn, stateOk}
 use Rattle.protocol.specs.InRange.{InRange}
-use Rattle.protocol.specs.SetUp.{refused, freshState, freshCells, startRow, noState, setUpOf}
+use Rattle.protocol.specs.Answers.{reply}
+use Rattle.protocol.specs.SetUp.{Outcome, refused, freshState, freshCells, startRow, noState, setUpOf}
 use Rattle.protocol.specs.Write.{writeStep}
 use Rattle.protocol.specs.Read.{valueIn, readStep}
 use Rattle.protocol.specs.Calls.{withWriter, withReader, rowOf, writerBegins, readerBegins, beginWriteOf, beginReadOf, stepWriter, stepReader, stepOf}
 use Rattle.protocol.proofs.Counting.{count-some}
 use Rattle.register.specs.declared.calls.Called.{Called}
 use Rattle.register.specs.Contract.{TableOk, WriteOk, ReadOk, writeStepped, readStepped, outcome, startWord, voidWord, freshWords}
+
+-- Equal outcomes have equal replies.
+pub with-reply : {o q : Outcome} → o ≡ q → (o ≡ q) × (reply (o .answer) ≡ reply (q .answer))
+with-reply e = (e, ap (λ (o : Outcome). reply (o .answer)) e)
 
 pub refusal : (c : Called) (why : Refusal) (s : State) (t l : List ℕ) → c .answer ≡ Refused why → c .state ≡ s
     → outcome c t l ≡ refused why s t l

@@ -14,6 +14,7 @@ ghost use mathlib.Core.Path.{_≡_};
 ghost use mathlib.Core.Bool.{true};
 ghost use Prim.Native.Nat.{_+_, _-_, _<_, _≤_};
 ghost use lib.ListN.{length};
+ghost use Rattle.protocol.specs.Answers.{reply};
 ghost use Rattle.protocol.specs.State.{readerAt};
 ghost use Rattle.protocol.specs.InRange.{InRange};
 ghost use Rattle.protocol.specs.Calls.{rowOf, beginWriteOf, beginReadOf, stepWriter, stepReader, stepOf};
@@ -49,7 +50,8 @@ fn refuse(s: State, why: Refusal) -> Called
 
 // Begin a write of a value.
 pub fn begin_write(s: State, table: &mut [u64], log: &mut [u64], value: u32) -> Called
-    ensures { λ r. ⌜ outcome r (now (table .exit)) (now (log .exit)) ≡ beginWriteOf s (now (table .entry)) (now (log .entry)) value ⌝ }
+    ensures call { λ r. ⌜ outcome r (now (table .exit)) (now (log .exit)) ≡ beginWriteOf s (now (table .entry)) (now (log .entry)) value ⌝ }
+    ensures number { λ r. ⌜ reply (r .answer) ≡ reply (beginWriteOf s (now (table .entry)) (now (log .entry)) value .answer) ⌝ }
 {
     if state_ok(s, table.len(), log.len()) {
         let w = s.writer;
@@ -75,7 +77,8 @@ pub fn begin_write(s: State, table: &mut [u64], log: &mut [u64], value: u32) -> 
 
 // Begin a read by reader p.
 pub fn begin_read(s: State, table: &mut [u64], log: &mut [u64], p: u32) -> Called
-    ensures { λ r. ⌜ outcome r (now (table .exit)) (now (log .exit)) ≡ beginReadOf s (now (table .entry)) (now (log .entry)) p ⌝ }
+    ensures call { λ r. ⌜ outcome r (now (table .exit)) (now (log .exit)) ≡ beginReadOf s (now (table .entry)) (now (log .entry)) p ⌝ }
+    ensures number { λ r. ⌜ reply (r .answer) ≡ reply (beginReadOf s (now (table .entry)) (now (log .entry)) p .answer) ⌝ }
 {
     if state_ok(s, table.len(), log.len()) {
         if (1 <= p) & (p <= s.n) {
@@ -156,7 +159,8 @@ fn step_reader(s: State, table: &mut [u64], log: &mut [u64], p: u32) -> Called
 
 // A sub-step of processor p.
 pub fn step(s: State, table: &mut [u64], log: &mut [u64], p: u32) -> Called
-    ensures { λ r. ⌜ outcome r (now (table .exit)) (now (log .exit)) ≡ stepOf s (now (table .entry)) (now (log .entry)) p ⌝ }
+    ensures call { λ r. ⌜ outcome r (now (table .exit)) (now (log .exit)) ≡ stepOf s (now (table .entry)) (now (log .entry)) p ⌝ }
+    ensures number { λ r. ⌜ reply (r .answer) ≡ reply (stepOf s (now (table .entry)) (now (log .entry)) p .answer) ⌝ }
 {
     if state_ok(s, table.len(), log.len()) {
         if p <= s.n {

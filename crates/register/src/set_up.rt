@@ -15,6 +15,7 @@ ghost use lib.ListN.{length, drop};
 ghost use lib.Dec.{ltb};
 ghost use Rattle.words.specs.Choice.{pick};
 ghost use Rattle.words.specs.Stamp.{none};
+ghost use Rattle.protocol.specs.Answers.{reply};
 ghost use Rattle.protocol.specs.SetUp.{freshState, noState, setUpOf};
 ghost use Rattle.register.specs.Contract.{outcome, startWord, voidWord, freshWords};
 
@@ -93,7 +94,8 @@ fn no_set_up(why: Refusal) -> Called
 
 // A fresh register of n readers with a start value, in the lent table and log.
 pub fn set_up(n: u32, value: u32, table: &mut [u64], log: &mut [u64]) -> Called
-    ensures { λ r. ⌜ outcome r (now (table .exit)) (now (log .exit)) ≡ setUpOf n value (now (table .entry)) (now (log .entry)) ⌝ }
+    ensures call { λ r. ⌜ outcome r (now (table .exit)) (now (log .exit)) ≡ setUpOf n value (now (table .entry)) (now (log .entry)) ⌝ }
+    ensures number { λ r. ⌜ reply (r .answer) ≡ reply (setUpOf n value (now (table .entry)) (now (log .entry)) .answer) ⌝ }
 {
     if (1 <= n) & (n <= 16) {
         let m = n as usize;

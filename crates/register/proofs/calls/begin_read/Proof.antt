@@ -1,4 +1,4 @@
-use Rattle.register.proofs.CallLaws.{refusal, read-range, read-processor, read-busy, read-full, read-begins}
+use Rattle.register.proofs.CallLaws.{with-reply, refusal, read-range, read-processor, read-busy, read-full, read-begins}
 use Rattle.words.proofs.Laws.Choice.{left, right}
 use lib.Dec.{leb}
 use borrow.Author.Tests.{leb-true}
@@ -25,10 +25,11 @@ element-copy-out-r c =
 
 returns : tie.Need-returns
 returns c =
+    with-reply (
     let a = c .before .before .before .before .before .before .before .before .args in
     let e = sym (c .before .before .before .before .before .state-ok .ensures) ∙ c .before .before .before .before .if1 .taken in
     refusal (c .refuse .result) _ (a .t1) _ _ (c .refuse .ensures .0) (c .refuse .ensures .1)
-    ∙ read-busy (a .t1) (now (a .table)) (now (a .log)) (a .p) e (c .before .before .before .if2 .taken) (c .before .if3 .taken)
+    ∙ read-busy (a .t1) (now (a .table)) (now (a .log)) (a .p) e (c .before .before .before .if2 .taken) (c .before .if3 .taken))
 
 open-in-requires : tie.Need-open-in-requires
 open-in-requires c κs =
@@ -74,30 +75,34 @@ element-set-from-next c =
 
 returns-2 : tie.Need-returns-2
 returns-2 c =
+    with-reply (
     let a = c .before .before .before .before .before .before .before .before .before .before .before .args in
     let e = sym (c .before .before .before .before .before .before .before .before .state-ok .ensures) ∙ c .before .before .before .before .before .before .before .if1 .taken in
     rw (c .before .row-of .ensures, c .open-reader .ensures)
-    (read-begins (a .t1) (now (a .table)) (now (a .log)) (a .p) e (c .before .before .before .before .before .before .if2 .taken) (c .before .before .before .before .if3 .left) (omega (arith, c .before .before .if4 .taken, c .before .before .before .open-in .ensures)))
+    (read-begins (a .t1) (now (a .table)) (now (a .log)) (a .p) e (c .before .before .before .before .before .before .if2 .taken) (c .before .before .before .before .if3 .left) (omega (arith, c .before .before .if4 .taken, c .before .before .before .open-in .ensures))))
 
 returns-3 : tie.Need-returns-3
 returns-3 c =
+    with-reply (
     let a = c .before .before .before .before .before .before .before .before .before .before .args in
     let e = sym (c .before .before .before .before .before .before .before .state-ok .ensures) ∙ c .before .before .before .before .before .before .if1 .taken in
     refusal (c .refuse2 .result) _ (a .t1) _ _ (c .refuse2 .ensures .0) (c .refuse2 .ensures .1)
-    ∙ read-full (a .t1) (now (a .table)) (now (a .log)) (a .p) e (c .before .before .before .before .before .if2 .taken) (c .before .before .before .if3 .left) (omega (arith, c .before .if4 .left, c .before .before .open-in .ensures))
+    ∙ read-full (a .t1) (now (a .table)) (now (a .log)) (a .p) e (c .before .before .before .before .before .if2 .taken) (c .before .before .before .if3 .left) (omega (arith, c .before .if4 .left, c .before .before .open-in .ensures)))
 
 returns-4 : tie.Need-returns-4
 returns-4 c =
+    with-reply (
     let a = c .before .before .before .before .before .before .args in
     let e = sym (c .before .before .before .state-ok .ensures) ∙ c .before .before .if1 .taken in
     refusal (c .refuse3 .result) _ (a .t1) _ _ (c .refuse3 .ensures .0) (c .refuse3 .ensures .1)
-    ∙ read-processor (a .t1) (now (a .table)) (now (a .log)) (a .p) e (c .before .if2 .left)
+    ∙ read-processor (a .t1) (now (a .table)) (now (a .log)) (a .p) e (c .before .if2 .left))
 
 returns-5 : tie.Need-returns-5
 returns-5 c =
+    with-reply (
     let a = c .before .before .before .before .before .args in
     refusal (c .refuse4 .result) _ (a .t1) _ _ (c .refuse4 .ensures .0) (c .refuse4 .ensures .1)
-    ∙ read-range (a .t1) (now (a .table)) (now (a .log)) (a .p) (sym (c .before .before .state-ok .ensures) ∙ c .before .if1 .left)
+    ∙ read-range (a .t1) (now (a .table)) (now (a .log)) (a .p) (sym (c .before .before .state-ok .ensures) ∙ c .before .if1 .left))
 
 pub begin-read-spec : {M : Type 1} → statement M
 begin-read-spec =

@@ -1,4 +1,4 @@
-use Rattle.register.proofs.CallLaws.{refusal, write-range, write-busy, write-full, write-begins}
+use Rattle.register.proofs.CallLaws.{with-reply, refusal, write-range, write-busy, write-full, write-begins}
 use Rattle.protocol.proofs.Range.{test-range}
 use denote.Ref.{now}
 use mathlib.Core.Path.{sym, _∙_}
@@ -9,10 +9,11 @@ use Rattle.register.proofs.calls.begin_write.Tie as tie
 
 returns : tie.Need-returns
 returns c =
+    with-reply (
     let a = c .before .before .before .before .before .before .before .args in
     let e = sym (c .before .before .before .before .state-ok .ensures) ∙ c .before .before .before .if1 .taken in
     refusal (c .refuse .result) _ (a .s) _ _ (c .refuse .ensures .0) (c .refuse .ensures .1)
-    ∙ write-busy (a .s) (now (a .table)) (now (a .log)) (a .value) e (c .before .if2 .taken)
+    ∙ write-busy (a .s) (now (a .table)) (now (a .log)) (a .value) e (c .before .if2 .taken))
 
 open-in-requires : tie.Need-open-in-requires
 open-in-requires c κs =
@@ -46,23 +47,26 @@ slice-write-log c =
 
 returns-2 : tie.Need-returns-2
 returns-2 c =
+    with-reply (
     let a = c .before .before .before .before .before .before .before .before .before .before .before .args in
     let e = sym (c .before .before .before .before .before .before .before .before .state-ok .ensures) ∙ c .before .before .before .before .before .before .before .if1 .taken in
     rw (c .before .row-of .ensures, c .open-writer .ensures)
-    (write-begins (a .s) (now (a .table)) (now (a .log)) (a .value) e (c .before .before .before .before .before .if2 .left) (omega (arith, c .before .before .if3 .taken, c .before .before .before .before .open-in .ensures)))
+    (write-begins (a .s) (now (a .table)) (now (a .log)) (a .value) e (c .before .before .before .before .before .if2 .left) (omega (arith, c .before .before .if3 .taken, c .before .before .before .before .open-in .ensures))))
 
 returns-3 : tie.Need-returns-3
 returns-3 c =
+    with-reply (
     let a = c .before .before .before .before .before .before .before .before .before .before .args in
     let e = sym (c .before .before .before .before .before .before .before .state-ok .ensures) ∙ c .before .before .before .before .before .before .if1 .taken in
     refusal (c .refuse2 .result) _ (a .s) _ _ (c .refuse2 .ensures .0) (c .refuse2 .ensures .1)
-    ∙ write-full (a .s) (now (a .table)) (now (a .log)) (a .value) e (c .before .before .before .before .if2 .left) (omega (arith, c .before .if3 .left, c .before .before .before .open-in .ensures))
+    ∙ write-full (a .s) (now (a .table)) (now (a .log)) (a .value) e (c .before .before .before .before .if2 .left) (omega (arith, c .before .if3 .left, c .before .before .before .open-in .ensures)))
 
 returns-4 : tie.Need-returns-4
 returns-4 c =
+    with-reply (
     let a = c .before .before .before .before .before .args in
     refusal (c .refuse3 .result) _ (a .s) _ _ (c .refuse3 .ensures .0) (c .refuse3 .ensures .1)
-    ∙ write-range (a .s) (now (a .table)) (now (a .log)) (a .value) (sym (c .before .before .state-ok .ensures) ∙ c .before .if1 .left)
+    ∙ write-range (a .s) (now (a .table)) (now (a .log)) (a .value) (sym (c .before .before .state-ok .ensures) ∙ c .before .if1 .left))
 
 pub begin-write-spec : {M : Type 1} → statement M
 begin-write-spec =

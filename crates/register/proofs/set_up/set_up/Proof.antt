@@ -1,4 +1,4 @@
-use Rattle.register.proofs.CallLaws.{refusal, no-readers, no-cells, no-rows, all-set}
+use Rattle.register.proofs.CallLaws.{with-reply, refusal, no-readers, no-cells, no-rows, all-set}
 use Rattle.protocol.specs.SetUp.{noState}
 use Rattle.words.proofs.Laws.Choice.{left, right}
 use borrow.Author.Tests.{leb-true}
@@ -31,27 +31,31 @@ slice-write-log c =
 
 returns : tie.Need-returns
 returns c =
+    with-reply (
     let a = c .before .before .before .before .before .before .before .before .before .before .before .before .before .args in
     rw (c .before .before .before .before .fill .ensures, c .before .row-of .ensures, c .fresh-state .ensures, c .before .before .before .before .before .before .before .start-word .ensures, c .before .before .before .before .before .before .void-word .ensures)
-    (all-set (a .n) (a .value) (now (a .table)) (now (a .log)) (c .before .before .before .before .before .before .before .before .before .before .if1 .taken) (c .before .before .before .before .before .before .before .before .before .if2 .taken) (c .before .before .before .before .before .before .before .before .if3 .taken))
+    (all-set (a .n) (a .value) (now (a .table)) (now (a .log)) (c .before .before .before .before .before .before .before .before .before .before .if1 .taken) (c .before .before .before .before .before .before .before .before .before .if2 .taken) (c .before .before .before .before .before .before .before .before .if3 .taken)))
 
 returns-2 : tie.Need-returns-2
 returns-2 c =
+    with-reply (
     let a = c .before .before .before .before .before .before .args in
     refusal (c .no-set-up .result) _ noState _ _ (c .no-set-up .ensures .0) (c .no-set-up .ensures .1)
-    ∙ no-rows (a .n) (a .value) (now (a .table)) (now (a .log)) (c .before .before .before .if1 .taken) (c .before .before .if2 .taken) (c .before .if3 .left)
+    ∙ no-rows (a .n) (a .value) (now (a .table)) (now (a .log)) (c .before .before .before .if1 .taken) (c .before .before .if2 .taken) (c .before .if3 .left))
 
 returns-3 : tie.Need-returns-3
 returns-3 c =
+    with-reply (
     let a = c .before .before .before .before .before .args in
     refusal (c .no-set-up2 .result) _ noState _ _ (c .no-set-up2 .ensures .0) (c .no-set-up2 .ensures .1)
-    ∙ no-cells (a .n) (a .value) (now (a .table)) (now (a .log)) (c .before .before .if1 .taken) (c .before .if2 .left)
+    ∙ no-cells (a .n) (a .value) (now (a .table)) (now (a .log)) (c .before .before .if1 .taken) (c .before .if2 .left))
 
 returns-4 : tie.Need-returns-4
 returns-4 c =
+    with-reply (
     let a = c .before .before .before .before .args in
     refusal (c .no-set-up3 .result) _ noState _ _ (c .no-set-up3 .ensures .0) (c .no-set-up3 .ensures .1)
-    ∙ no-readers (a .n) (a .value) (now (a .table)) (now (a .log)) (c .before .if1 .left)
+    ∙ no-readers (a .n) (a .value) (now (a .table)) (now (a .log)) (c .before .if1 .left))
 
 pub set-up-spec : {M : Type 1} → statement M
 set-up-spec =
