@@ -3,13 +3,15 @@
 use protocol::State;
 use register::calls::Called;
 ghost use mathlib.Core.Path.{_≡_};
+ghost use Rattle.protocol.specs.Answers.{reply};
 ghost use Rattle.protocol.specs.Calls.{stepOf};
 ghost use Rattle.register.specs.Contract.{outcome};
 ghost use Rattle.entries.specs.Contract.{beginOf};
 
 // Processor p begins.
 pub fn begin(s: State, table: &mut [u64], log: &mut [u64], p: u32, value: u32) -> Called
-    ensures { λ r. ⌜ outcome r (now (table .exit)) (now (log .exit)) ≡ beginOf s (now (table .entry)) (now (log .entry)) p value ⌝ }
+    ensures { λ r. ⌜ (outcome r (now (table .exit)) (now (log .exit)) ≡ beginOf s (now (table .entry)) (now (log .entry)) p value)
+        × (reply (r .answer) ≡ reply (beginOf s (now (table .entry)) (now (log .entry)) p value .answer)) ⌝ }
 {
     let mut state = s;
     let answer = super::begin(&mut state, table, log, p, value);
@@ -21,7 +23,8 @@ pub fn begin(s: State, table: &mut [u64], log: &mut [u64], p: u32, value: u32) -
 
 // A sub-step of processor p.
 pub fn step(s: State, table: &mut [u64], log: &mut [u64], p: u32) -> Called
-    ensures { λ r. ⌜ outcome r (now (table .exit)) (now (log .exit)) ≡ stepOf s (now (table .entry)) (now (log .entry)) p ⌝ }
+    ensures { λ r. ⌜ (outcome r (now (table .exit)) (now (log .exit)) ≡ stepOf s (now (table .entry)) (now (log .entry)) p)
+        × (reply (r .answer) ≡ reply (stepOf s (now (table .entry)) (now (log .entry)) p .answer)) ⌝ }
 {
     let mut state = s;
     let answer = super::step(&mut state, table, log, p);

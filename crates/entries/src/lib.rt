@@ -6,12 +6,14 @@ pub mod kept; // the entries over a state in a local
 use protocol::Answer;
 use protocol::State;
 ghost use mathlib.Core.Path.{_≡_};
+ghost use Rattle.protocol.specs.Answers.{reply};
 ghost use Rattle.protocol.specs.Calls.{stepOf};
 ghost use Rattle.entries.specs.Contract.{beginOf, left};
 
 // Processor p begins: the writer, 0, a write of the value, and a reader a read.
 pub fn begin(state: &mut State, table: &mut [u64], log: &mut [u64], p: u32, value: u32) -> Answer
-    ensures { λ r. ⌜ left r (now (state .exit)) (now (table .exit)) (now (log .exit)) ≡ beginOf (now (state .entry)) (now (table .entry)) (now (log .entry)) p value ⌝ }
+    ensures { λ r. ⌜ (left r (now (state .exit)) (now (table .exit)) (now (log .exit)) ≡ beginOf (now (state .entry)) (now (table .entry)) (now (log .entry)) p value)
+        × (reply r ≡ reply (beginOf (now (state .entry)) (now (table .entry)) (now (log .entry)) p value .answer)) ⌝ }
 {
     let called = by_value::begin(*state, table, log, p, value);
     *state = called.state;
@@ -20,7 +22,8 @@ pub fn begin(state: &mut State, table: &mut [u64], log: &mut [u64], p: u32, valu
 
 // A sub-step of processor p.
 pub fn step(state: &mut State, table: &mut [u64], log: &mut [u64], p: u32) -> Answer
-    ensures { λ r. ⌜ left r (now (state .exit)) (now (table .exit)) (now (log .exit)) ≡ stepOf (now (state .entry)) (now (table .entry)) (now (log .entry)) p ⌝ }
+    ensures { λ r. ⌜ (left r (now (state .exit)) (now (table .exit)) (now (log .exit)) ≡ stepOf (now (state .entry)) (now (table .entry)) (now (log .entry)) p)
+        × (reply r ≡ reply (stepOf (now (state .entry)) (now (table .entry)) (now (log .entry)) p .answer)) ⌝ }
 {
     let called = register::calls::step(*state, table, log, p);
     *state = called.state;

@@ -50,8 +50,8 @@ fn refuse(s: State, why: Refusal) -> Called
 
 // Begin a write of a value.
 pub fn begin_write(s: State, table: &mut [u64], log: &mut [u64], value: u32) -> Called
-    ensures call { λ r. ⌜ outcome r (now (table .exit)) (now (log .exit)) ≡ beginWriteOf s (now (table .entry)) (now (log .entry)) value ⌝ }
-    ensures number { λ r. ⌜ reply (r .answer) ≡ reply (beginWriteOf s (now (table .entry)) (now (log .entry)) value .answer) ⌝ }
+    ensures { λ r. ⌜ (outcome r (now (table .exit)) (now (log .exit)) ≡ beginWriteOf s (now (table .entry)) (now (log .entry)) value)
+        × (reply (r .answer) ≡ reply (beginWriteOf s (now (table .entry)) (now (log .entry)) value .answer)) ⌝ }
 {
     if state_ok(s, table.len(), log.len()) {
         let w = s.writer;
@@ -77,8 +77,8 @@ pub fn begin_write(s: State, table: &mut [u64], log: &mut [u64], value: u32) -> 
 
 // Begin a read by reader p.
 pub fn begin_read(s: State, table: &mut [u64], log: &mut [u64], p: u32) -> Called
-    ensures call { λ r. ⌜ outcome r (now (table .exit)) (now (log .exit)) ≡ beginReadOf s (now (table .entry)) (now (log .entry)) p ⌝ }
-    ensures number { λ r. ⌜ reply (r .answer) ≡ reply (beginReadOf s (now (table .entry)) (now (log .entry)) p .answer) ⌝ }
+    ensures { λ r. ⌜ (outcome r (now (table .exit)) (now (log .exit)) ≡ beginReadOf s (now (table .entry)) (now (log .entry)) p)
+        × (reply (r .answer) ≡ reply (beginReadOf s (now (table .entry)) (now (log .entry)) p .answer)) ⌝ }
 {
     if state_ok(s, table.len(), log.len()) {
         if (1 <= p) & (p <= s.n) {
@@ -159,8 +159,8 @@ fn step_reader(s: State, table: &mut [u64], log: &mut [u64], p: u32) -> Called
 
 // A sub-step of processor p.
 pub fn step(s: State, table: &mut [u64], log: &mut [u64], p: u32) -> Called
-    ensures call { λ r. ⌜ outcome r (now (table .exit)) (now (log .exit)) ≡ stepOf s (now (table .entry)) (now (log .entry)) p ⌝ }
-    ensures number { λ r. ⌜ reply (r .answer) ≡ reply (stepOf s (now (table .entry)) (now (log .entry)) p .answer) ⌝ }
+    ensures { λ r. ⌜ (outcome r (now (table .exit)) (now (log .exit)) ≡ stepOf s (now (table .entry)) (now (log .entry)) p)
+        × (reply (r .answer) ≡ reply (stepOf s (now (table .entry)) (now (log .entry)) p .answer)) ⌝ }
 {
     if state_ok(s, table.len(), log.len()) {
         if p <= s.n {

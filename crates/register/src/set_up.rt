@@ -94,8 +94,8 @@ fn no_set_up(why: Refusal) -> Called
 
 // A fresh register of n readers with a start value, in the lent table and log.
 pub fn set_up(n: u32, value: u32, table: &mut [u64], log: &mut [u64]) -> Called
-    ensures call { λ r. ⌜ outcome r (now (table .exit)) (now (log .exit)) ≡ setUpOf n value (now (table .entry)) (now (log .entry)) ⌝ }
-    ensures number { λ r. ⌜ reply (r .answer) ≡ reply (setUpOf n value (now (table .entry)) (now (log .entry)) .answer) ⌝ }
+    ensures { λ r. ⌜ (outcome r (now (table .exit)) (now (log .exit)) ≡ setUpOf n value (now (table .entry)) (now (log .entry)))
+        × (reply (r .answer) ≡ reply (setUpOf n value (now (table .entry)) (now (log .entry)) .answer)) ⌝ }
 {
     if (1 <= n) & (n <= 16) {
         let m = n as usize;

@@ -41,6 +41,7 @@ use denote.Triple.Spec.{Meets, tripleOf}
 use denote.Triple.Statement.{Contract, Triple}
 use denote.Triple.Table.{entered, cited}
 use denote.Triple.Walked.{says, Stays, stay-ref, stay-none, walkOf, AllGo, goes-none, goes-ref, gave-slice, goes-gave-slice, Walks, ends-at, walked, walk-meets}
+use Rattle.register.proofs.CallLaws.{with-reply}
 use Rattle.protocol.specs.declared.State.{State}
 use Rattle.protocol.proofs.State as T
 use Rattle.register.specs.Contract.{outcome}
@@ -92,7 +93,7 @@ module _ {M : Type 1} (𝓤 : URA M) (H : Heap 𝓤) (A : Atoms 𝓤) (W : Given
   exits r us vs e l₁ l₂ is =
       qed W (‵ (fobs γ (T.the-row .coded .code (r .state))) ∷ ‵ (fbor κ (Body (mem T.the-row) b o γ)) ∷ ‵ (flft κ q) ∷ Tokens κ₁ κ₂ q₁ q₂ ∷ ‵ (finally u64 (y .name) us) ∷ ‵ (finally u64 (z .name) vs) ∷ []) ∵
       suffices ! _ (ends-at 𝓤 H A begin.ended stayed (begin.clauses 𝓤 H A at-mem run) W (((κ, (κ₁, (κ₂, tt))), (q, (q₁, (q₂, tt))), bounds, x, at), tt) (said (r .answer)) (r .answer) (r .state, (us, (vs, (tt, (tt, tt))))) (tt, (l₁, (l₂, (tt, (tt, tt)))))) $
-      says ! e $ by ! (ends-lent 𝓤 H A W κ₁ κ₂ q₁ q₂ y z (u32 ∷ u32 ∷ []) (p, (v, tt)) (vint w32 p ∷ [], (vint w32 v ∷ [], tt)) numbers κ q b o γ (r .state) us vs (r .answer) is)
+      says ! (with-reply e) $ by ! (ends-lent 𝓤 H A W κ₁ κ₂ q₁ q₂ y z (u32 ∷ u32 ∷ []) (p, (v, tt)) (vint w32 p ∷ [], (vint w32 v ∷ [], tt)) numbers κ q b o γ (r .state) us vs (r .answer) is)
 
   module _ (C : Calls 𝓤 H) (Λ : Loops 𝓤 H) (fm : FmC 𝓤 H (W .laws) C) (known : Triple 𝓤 (C #entries·by-value·begin) (Core 𝓤 H A at-mem run)) where
     walk : ent 𝓤 (onEntry 𝓤 H A begin.signature (κ, (κ₁, (κ₂, tt))) (q, (q₁, (q₂, tt))) x at) (WpFn 𝓤 H C Λ code.function (vptr b o ∷ slice y ∷ slice z ∷ vint w32 p ∷ vint w32 v ∷ []) Post)

@@ -41,6 +41,8 @@ use denote.Triple.Spec.{Meets, tripleOf}
 use denote.Triple.Statement.{Contract, Triple}
 use denote.Triple.Table.{entered, cited}
 use denote.Triple.Walked.{says, Stays, stay-ref, stay-none, walkOf, AllGo, goes-none, goes-ref, gave-slice, goes-gave-slice, Walks, ends-at, walked, walk-meets}
+use Rattle.register.proofs.CallLaws.{with-reply}
+use Rattle.protocol.specs.Answers.{reply}
 use Rattle.protocol.specs.Calls.{stepOf}
 use Rattle.protocol.specs.declared.State.{State}
 use Rattle.protocol.proofs.State as T
@@ -92,7 +94,7 @@ module _ {M : Type 1} (𝓤 : URA M) (H : Heap 𝓤) (A : Atoms 𝓤) (W : Given
   exits r us vs e l₁ l₂ is =
       qed W (‵ (fobs γ (T.the-row .coded .code (r .state))) ∷ ‵ (fbor κ (Body (mem T.the-row) b o γ)) ∷ ‵ (flft κ q) ∷ Tokens κ₁ κ₂ q₁ q₂ ∷ ‵ (finally u64 (y .name) us) ∷ ‵ (finally u64 (z .name) vs) ∷ []) ∵
       suffices ! _ (ends-at 𝓤 H A step.ended stayed (step.clauses 𝓤 H A at-mem run) W (((κ, (κ₁, (κ₂, tt))), (q, (q₁, (q₂, tt))), bounds, x, at), tt) (said (r .answer)) (r .answer) (r .state, (us, (vs, (tt, tt)))) (tt, (l₁, (l₂, (tt, tt))))) $
-      says ! e $ by ! (ends-lent 𝓤 H A W κ₁ κ₂ q₁ q₂ y z (u32 ∷ []) (p, tt) (vint w32 p ∷ [], tt) numbers κ q b o γ (r .state) us vs (r .answer) is)
+      says ! (with-reply e) $ by ! (ends-lent 𝓤 H A W κ₁ κ₂ q₁ q₂ y z (u32 ∷ []) (p, tt) (vint w32 p ∷ [], tt) numbers κ q b o γ (r .state) us vs (r .answer) is)
 
   module _ (C : Calls 𝓤 H) (Λ : Loops 𝓤 H) (fm : FmC 𝓤 H (W .laws) C) (known : Triple 𝓤 (C #register·calls·step) (Core 𝓤 H A at-mem run)) where
     walk : ent 𝓤 (onEntry 𝓤 H A step.signature (κ, (κ₁, (κ₂, tt))) (q, (q₁, (q₂, tt))) x at) (WpFn 𝓤 H C Λ code.function (vptr b o ∷ slice y ∷ slice z ∷ vint w32 p ∷ []) Post)
@@ -111,8 +113,8 @@ module _ {M : Type 1} (𝓤 : URA M) (H : Heap 𝓤) (A : Atoms 𝓤) (W : Given
         -- the call
         move ! (4 ∷ 7 ∷ 5 ∷ []) $ use3 W (raw (Core 𝓤 H A at-mem run .pre to-core)) (asks-value 𝓤 H A W κ₁ κ₂ q₁ q₂ y z (u32 ∷ []) (p, tt) (vint w32 p ∷ [], tt) numbers h is) $
         calls-at ! fm (Core 𝓤 H A at-mem run) known to-core (and-then ! (load ! (from ! (stop !)) (look ! 14 refl)) (and-then ! (load ! (from ! (stop !)) (look ! 10 refl)) (and-then ! (load ! (from ! (stop !)) (look ! 6 refl)) (and-then ! (load ! (from ! (stop !)) (look ! 18 refl)) (no-more !))))) (λ w.
-        use1 W (later (some (λ (r : Called). (Tokens κ₁ κ₂ q₁ q₂ ⊛ ‵ (D.the-row .own r (w ∷ []))) ⊛ some (λ (zs : Lasts core.ended (κ₁, (κ₂, tt)) (h, (y, (z, (p, tt))))). ‵ (lasts core.ended (κ₁, (κ₂, tt)) (h, (y, (z, (p, tt)))) zs) ⊛ raw (fact 𝓤 (outcome r (zs .1 .0) (zs .1 .1 .0) ≡ stepOf h (y .now) (z .now) p)))))) (id⊢ 𝓤 _) $
-        await ! tt $ pick ! (λ r. split ! $ move ! (1 ∷ []) $ pick ! (λ zs. ended ! y z (zs .1 .0) (zs .1 .1 .0) (outcome r (zs .1 .0) (zs .1 .1 .0) ≡ stepOf h (y .now) (z .now) p) (λ e₁ e₂ e. drop ! $
+        use1 W (later (some (λ (r : Called). (Tokens κ₁ κ₂ q₁ q₂ ⊛ ‵ (D.the-row .own r (w ∷ []))) ⊛ some (λ (zs : Lasts core.ended (κ₁, (κ₂, tt)) (h, (y, (z, (p, tt))))). ‵ (lasts core.ended (κ₁, (κ₂, tt)) (h, (y, (z, (p, tt)))) zs) ⊛ raw (fact 𝓤 ((outcome r (zs .1 .0) (zs .1 .1 .0) ≡ stepOf h (y .now) (z .now) p) × (reply (r .answer) ≡ reply (stepOf h (y .now) (z .now) p .answer)))))))) (id⊢ 𝓤 _) $
+        await ! tt $ pick ! (λ r. split ! $ move ! (1 ∷ []) $ pick ! (λ zs. ended ! y z (zs .1 .0) (zs .1 .1 .0) ((outcome r (zs .1 .0) (zs .1 .1 .0) ≡ stepOf h (y .now) (z .now) p) × (reply (r .answer) ≡ reply (stepOf h (y .now) (z .now) p .answer))) (λ e₁ e₂ e. drop ! $
         move ! (2 ∷ []) $ split ! $ move ! (1 ∷ []) $ facts ! D.the-row (Is D.the-row) (shows 𝓤 H A D.the-row) r (w ∷ []) (λ is-r.
         -- [the tokens; the last table; the last log; the state's cell; the open borrow; obs; auth; the number; _10; …]: what the call returned is stored
         land ! (from ! (stop !)) (init ! 18 refl (called-typed 𝓤 H A W r w is-r)) $ rewrite ! 18 (λ (u : Val). ‵ (fat fullShare D′.mir l₅ 0 u)) (ap only (SL.tells D.the-type D′.the-laws r _ is-r)) refl $
@@ -122,7 +124,7 @@ module _ {M : Type 1} (𝓤 : URA M) (H : Heap 𝓤) (A : Atoms 𝓤) (W : Given
         move ! (3 ∷ 4 ∷ 5 ∷ 6 ∷ []) $ puts ! (r .state) b o (state-in r w is-r) $ close-ref ! tt (mem T.the-row) (r .state) {b = b} {o = o} $
         returns ! (look ! 27 refl) $ forget ! 7 refl $ forget ! 9 refl $ forget ! 11 refl $ forget ! 13 refl $ forget ! 15 refl $ forget ! 17 refl $ forget ! 19 refl $ forget ! 21 refl $ forget ! 23 refl $ forget ! 25 refl $ forget ! 27 refl $
         move ! (27 ∷ 28 ∷ []) $ free1 ! $ move ! (25 ∷ 26 ∷ []) $ free1 ! $ move ! (23 ∷ 24 ∷ []) $ free1 ! $ move ! (21 ∷ 22 ∷ []) $ free1 ! $ move ! (19 ∷ 20 ∷ []) $ free1 ! $ move ! (17 ∷ 18 ∷ []) $ free1 ! $ move ! (15 ∷ 16 ∷ []) $ free1 ! $ move ! (13 ∷ 14 ∷ []) $ free1 ! $ move ! (11 ∷ 12 ∷ []) $ free1 ! $ move ! (9 ∷ 10 ∷ []) $ free1 ! $ move ! (7 ∷ 8 ∷ []) $ free1 ! $ free0 ! $
-        keep ! (0 ∷ 1 ∷ 2 ∷ 3 ∷ 4 ∷ 5 ∷ []) $ by ! (exits r (zs .1 .0) (zs .1 .1 .0) e e₁ e₂ (answer-in r w is-r)))))))))))))))))))
+        keep ! (0 ∷ 1 ∷ 2 ∷ 3 ∷ 4 ∷ 5 ∷ []) $ by ! (exits r (zs .1 .0) (zs .1 .1 .0) (e .0) e₁ e₂ (answer-in r w is-r)))))))))))))))))))
 
 module _ {M : Type 1} (𝓤 : URA M) (H : Heap 𝓤) (A : Atoms 𝓤) (W : Given 𝓤 H A) (at-mem : Memory → SProp 𝓤) (run : Routine → Fun 𝓤) where
   step-walks : (C : Calls 𝓤 H) (Λ : Loops 𝓤 H) → FmC 𝓤 H (W .laws) C → Triple 𝓤 (C #register·calls·step) (Core 𝓤 H A at-mem run) → Walks 𝓤 H A step.ended stayed (WpFn 𝓤 H C Λ code.function) (step.clauses 𝓤 H A at-mem run)

@@ -7,12 +7,12 @@ use Rattle.entries.proofs.by_value.begin.Tie as tie
 returns : tie.Need-returns
 returns c =
     let a = c .before .before .before .before .before .before .before .before .before .before .args in
-    c .before .before .before .before .begin-write .ensures ∙ rw (eq-eqb (a .p) 0 (c .before .before .before .before .before .before .before .if1 .taken))
+    c .before .before .before .before .begin-write .ensures .0 ∙ rw (eq-eqb (a .p) 0 (c .before .before .before .before .before .before .before .if1 .taken))
 
 returns-2 : tie.Need-returns-2
 returns-2 c =
     let a = c .before .before .before .before .before .before .before .before .before .before .args in
-    c .before .before .before .before .begin-read .ensures ∙ rw (ne-eqb (a .p) 0 (c .before .before .before .before .before .before .before .if1 .left))
+    c .before .before .before .before .begin-read .ensures .0 ∙ rw (ne-eqb (a .p) 0 (c .before .before .before .before .before .before .before .if1 .left))
 
 pub begin-spec : {M : Type 1} → statement M
 begin-spec =

@@ -42,6 +42,8 @@ use denote.Triple.Spec.{Meets, tripleOf}
 use denote.Triple.Statement.{Contract, Triple}
 use denote.Triple.Table.{entered, cited}
 use denote.Triple.Walked.{says, Stays, stay-none, walkOf, AllGo, goes-none, gave-slice, goes-gave-slice, Walks, ends-at, walked, walk-meets}
+use Rattle.register.proofs.CallLaws.{with-reply}
+use Rattle.protocol.specs.Answers.{reply}
 use Rattle.protocol.specs.declared.Answer.{Answer}
 use Rattle.protocol.specs.declared.State.{State}
 use Rattle.protocol.proofs.Answer as N
@@ -102,7 +104,7 @@ module _ {M : Type 1} (𝓤 : URA M) (H : Heap 𝓤) (A : Atoms 𝓤) (W : Given
   exits c s us vs e l₁ l₂ is-c is-s =
       qed W (Tokens κ₁ κ₂ q₁ q₂ ∷ ‵ (finally u64 (y .name) us) ∷ ‵ (finally u64 (z .name) vs) ∷ []) ∵
       suffices ! _ (ends-at 𝓤 H A kept.ended stayed (kept.clauses 𝓤 H A at-mem run) W (((κ₁, (κ₂, tt)), (q₁, (q₂, tt)), tt, x, at), tt) (told (made c s)) (made c s) (tt, (us, (vs, (tt, (tt, tt))))) (tt, (l₁, (l₂, (tt, (tt, tt)))))) $
-      says ! e $ by ! (ends-value 𝓤 H A W κ₁ κ₂ q₁ q₂ y z (u32 ∷ u32 ∷ []) (p, (v, tt)) (vint w32 p ∷ [], (vint w32 v ∷ [], tt)) numbers h is us vs (made c s) (called-is (made c s) is-c is-s))
+      says ! (with-reply e) $ by ! (ends-value 𝓤 H A W κ₁ κ₂ q₁ q₂ y z (u32 ∷ u32 ∷ []) (p, (v, tt)) (vint w32 p ∷ [], (vint w32 v ∷ [], tt)) numbers h is us vs (made c s) (called-is (made c s) is-c is-s))
 
   module _ (C : Calls 𝓤 H) (Λ : Loops 𝓤 H) (fm : FmC 𝓤 H (W .laws) C) (known : Triple 𝓤 (C #entries·begin) (Entry 𝓤 H A at-mem run)) where
     walk : ent 𝓤 (onEntry 𝓤 H A kept.signature (κ₁, (κ₂, tt)) (q₁, (q₂, tt)) x at) (WpFn 𝓤 H C Λ code.function (mach h ∷ slice y ∷ slice z ∷ vint w32 p ∷ vint w32 v ∷ []) Post)
@@ -124,8 +126,8 @@ module _ {M : Type 1} (𝓤 : URA M) (H : Heap 𝓤) (A : Atoms 𝓤) (W : Given
         -- [the reference; what the lender keeps; its token; the log; the numbers; the table; _13; …]
         move ! (5 ∷ 3 ∷ []) $ join ! $ move ! (3 ∷ 32 ∷ []) $ join ! $ move ! (0 ∷ 2 ∷ 1 ∷ []) $ use3 W (raw (Entry 𝓤 H A at-mem run .pre (to-entry α l₆ γ))) (asks-lent 𝓤 H A W κ₁ κ₂ q₁ q₂ y z (u32 ∷ u32 ∷ []) (p, (v, tt)) (vint w32 p ∷ [], (vint w32 v ∷ [], tt)) numbers (α ∷ []) fullShare l₆ 0 γ h) $
         calls-at ! fm (Entry 𝓤 H A at-mem run) known (to-entry α l₆ γ) (and-then ! (load ! (from ! (stop !)) (look ! 13 refl)) (and-then ! (load ! (from ! (stop !)) (look ! 9 refl)) (and-then ! (load ! (from ! (stop !)) (look ! 5 refl)) (and-then ! (load ! (from ! (stop !)) (look ! 20 refl)) (and-then ! (load ! (from ! (stop !)) (look ! 18 refl)) (no-more !)))))) (λ w.
-        use1 W (later (some (λ (c : Answer). ((‵ (flft (α ∷ []) fullShare) ⊛ Tokens κ₁ κ₂ q₁ q₂) ⊛ ‵ (N.the-row .own c (w ∷ []))) ⊛ some (λ (zs : Lasts entry.ended (α ∷ [], (κ₁, (κ₂, tt))) (lent l₆ γ, (y, (z, (p, (v, tt)))))). ‵ (lasts entry.ended (α ∷ [], (κ₁, (κ₂, tt))) (lent l₆ γ, (y, (z, (p, (v, tt))))) zs) ⊛ raw (fact 𝓤 (left c (zs .0) (zs .1 .0) (zs .1 .1 .0) ≡ beginOf h (y .now) (z .now) p v)))))) (id⊢ 𝓤 _) $
-        await ! tt $ pick ! (λ c. split ! $ move ! (1 ∷ []) $ pick ! (λ zs. ended ! y z (zs .1 .0) (zs .1 .1 .0) (left c (zs .0) (zs .1 .0) (zs .1 .1 .0) ≡ beginOf h (y .now) (z .now) p v) (λ e₁ e₂ e.
+        use1 W (later (some (λ (c : Answer). ((‵ (flft (α ∷ []) fullShare) ⊛ Tokens κ₁ κ₂ q₁ q₂) ⊛ ‵ (N.the-row .own c (w ∷ []))) ⊛ some (λ (zs : Lasts entry.ended (α ∷ [], (κ₁, (κ₂, tt))) (lent l₆ γ, (y, (z, (p, (v, tt)))))). ‵ (lasts entry.ended (α ∷ [], (κ₁, (κ₂, tt))) (lent l₆ γ, (y, (z, (p, (v, tt))))) zs) ⊛ raw (fact 𝓤 ((left c (zs .0) (zs .1 .0) (zs .1 .1 .0) ≡ beginOf h (y .now) (z .now) p v) × (reply c ≡ reply (beginOf h (y .now) (z .now) p v .answer)))))))) (id⊢ 𝓤 _) $
+        await ! tt $ pick ! (λ c. split ! $ move ! (1 ∷ []) $ pick ! (λ zs. ended ! y z (zs .1 .0) (zs .1 .1 .0) ((left c (zs .0) (zs .1 .0) (zs .1 .1 .0) ≡ beginOf h (y .now) (z .now) p v) × (reply c ≡ reply (beginOf h (y .now) (z .now) p v .answer))) (λ e₁ e₂ e.
         move ! (3 ∷ []) $ split ! $ split ! $ move ! (2 ∷ []) $ facts ! N.the-row (Is N.the-row) (shows 𝓤 H A N.the-row) c (w ∷ []) (λ is-c.
         -- [the lender's token; the tokens; the last state; the last table; the last log; what the lender keeps; the numbers; _13; …]
         land ! (from ! (stop !)) (init ! 19 refl (answer-typed 𝓤 H A W c w is-c)) $ rewrite ! 19 (λ (u : Val). ‵ (fat fullShare N′.mir l₇ 0 u)) (ap only (EL.tells N.the-type N′.the-laws c _ is-c)) refl $
@@ -137,7 +139,7 @@ module _ {M : Type 1} (𝓤 : URA M) (H : Heap 𝓤) (A : Atoms 𝓤) (W : Given
         returns ! (look ! 30 refl) $ forget ! 0 refl $ forget ! 5 refl $ forget ! 7 refl $ forget ! 9 refl $ forget ! 11 refl $ forget ! 13 refl $ forget ! 15 refl $ forget ! 17 refl $ forget ! 20 refl $ forget ! 22 refl $ forget ! 24 refl $ forget ! 26 refl $ forget ! 28 refl $ forget ! 30 refl $
         move ! (30 ∷ 31 ∷ []) $ free1 ! $ move ! (28 ∷ 29 ∷ []) $ free1 ! $ move ! (26 ∷ 27 ∷ []) $ free1 ! $ move ! (24 ∷ 25 ∷ []) $ free1 ! $ move ! (22 ∷ 23 ∷ []) $ free1 ! $ move ! (20 ∷ 21 ∷ []) $ free1 ! $ move ! (0 ∷ 19 ∷ []) $ free1 ! $
         move ! (16 ∷ 17 ∷ []) $ free1 ! $ move ! (14 ∷ 15 ∷ []) $ free1 ! $ move ! (12 ∷ 13 ∷ []) $ free1 ! $ move ! (10 ∷ 11 ∷ []) $ free1 ! $ move ! (8 ∷ 9 ∷ []) $ free1 ! $ move ! (6 ∷ 7 ∷ []) $ free1 ! $ move ! (4 ∷ 5 ∷ []) $ free1 ! $ free0 ! $
-        keep ! (0 ∷ 1 ∷ 2 ∷ []) $ by ! (exits c (zs .0) (zs .1 .0) (zs .1 .1 .0) e e₁ e₂ (answer-is c w is-c) is-s)))))))))))))))))))))))
+        keep ! (0 ∷ 1 ∷ 2 ∷ []) $ by ! (exits c (zs .0) (zs .1 .0) (zs .1 .1 .0) (e .0) e₁ e₂ (answer-is c w is-c) is-s)))))))))))))))))))))))
 
 module _ {M : Type 1} (𝓤 : URA M) (H : Heap 𝓤) (A : Atoms 𝓤) (W : Given 𝓤 H A) (at-mem : Memory → SProp 𝓤) (run : Routine → Fun 𝓤) where
   begin-walks : (C : Calls 𝓤 H) (Λ : Loops 𝓤 H) → FmC 𝓤 H (W .laws) C → Triple 𝓤 (C #entries·begin) (Entry 𝓤 H A at-mem run) → Walks 𝓤 H A kept.ended stayed (WpFn 𝓤 H C Λ code.function) (kept.clauses 𝓤 H A at-mem run)
