@@ -1,5 +1,5 @@
 -- A log with one row more.
-use Prim.Native.Nat.{ℕ, suc, zero, _≤_, _<_, _+_, _-_, _/_, _%_, _^_}
+use Prim.Native.Nat.{ℕ, suc, zero, _≤_, _<_, _+_, _-_}
 use native.Mathlib.Omega.{arith}
 use native.Mathlib.Decide.{decLt}
 use mathlib.Core.Path.{_≡_, refl, _∙_, sym}
@@ -8,7 +8,6 @@ use mathlib.Core.Logic.{_≢_}
 use mathlib.Core.List.{List, [], _∷_, _++_}
 use lib.Dec.{T, ltb, ltb→lt, lt→ltb}
 use lib.ListN.{length, getD, List·getD-append, length-append}
-use lib.Seq.{getD-append-seam}
 use Rattle.history.specs.History.{eventAt, endAt}
 use Rattle.words.proofs.Laws.Choice.{and-T, T-left, T-right}
 use Rattle.history.proofs.Ends.{Next, fin-of, fin-next, fin-none, fin-open}
@@ -47,10 +46,6 @@ module _ (log : List ℕ) (x : ℕ) where
   grown-open i zero a = refl
   grown-open i (suc zero) a = refl
   grown-open i (suc (suc k)) a = rw (grown-proc (suc k) (omega arith), grown-kind (suc k) (omega arith), grown-open i (suc k) (omega arith))
-
-  pub grown-last : processorAt (grown log x) (length log) ≡ x / 2 ^ 52 % 256
-  unfolding processorAt
-  grown-last = rw (getD-append-seam log x [] 0)
 
   -- An ended operation keeps its end; an open one ends at the new row if that is of its processor.
   pub grown-next : (b e : ℕ) → Next log b e → Next (grown log x) b e

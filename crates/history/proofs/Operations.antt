@@ -3,7 +3,7 @@ use Prim.Native.Nat.{ℕ, suc, zero, _≤_, _<_}
 use native.Mathlib.Omega.{arith}
 use native.Mathlib.Decide.{ℕ-discrete}
 use mathlib.Core.Path.{_≡_, refl, _∙_, sym}
-use mathlib.Core.Bool.{Bool, true, false, not, _||_}
+use mathlib.Core.Bool.{Bool, not}
 use mathlib.Core.Logic.{_⊎_, inl, inr, _≢_}
 use mathlib.Core.List.{List}
 use lib.Dec.{T, T-not, eqb, leb, eqb→eq, leb→le, ltb→lt}
@@ -23,10 +23,6 @@ pub record RowOk (log : List ℕ) (k : ℕ) : Type 0 where
   pub reader : 3 ≤ kindAt log k → (1 ≤ processorAt log k) × (processorAt log k ≤ processorAt log 0)
   pub begins : (kindAt log k ≡ 1) ⊎ (kindAt log k ≡ 3) → openAt log (processorAt log k) k ≡ 0
   pub ends : (kindAt log k ≡ 2) ⊎ (kindAt log k ≡ 4) → 0 < openAt log (processorAt log k) k
-
-or-T : (a b : Bool) → T a ⊎ T b → T (a || b)
-or-T true b x = tt
-or-T false b (inr x) = x
 
 begin-T : (log : List ℕ) (k : ℕ) → (kindAt log k ≡ 1) ⊎ (kindAt log k ≡ 3) → T (beginsAt log k)
 begin-T log k (inl e) = rw e tt

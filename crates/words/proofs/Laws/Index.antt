@@ -98,7 +98,3 @@ pub row-fits : (n i : ℕ) → n < 2 ^ 32 → i < 2 ^ 32 → n * i ≤ (2 ^ 32 -
 row-fits n i hn hi =
     let h : i ≤ 2 ^ 32 - 1 = omega arith in
     omega (arith, mul-le-mul-left n h)
-
-pub in-row-fits : (i j : ℕ) → j < 2 ^ 32 → inRow i j ≤ 2 ^ 32 - 1
-unfolding inRow
-in-row-fits i j h = lt-ind (λ k. k ≤ 2 ^ 32 - 1) j i _ _ (λ g. omega arith) (λ g. omega arith)

@@ -1,0 +1,1 @@
+// What joins the two products, which know nothing of each other: the judge accepts every log of the register. See proofs/.
