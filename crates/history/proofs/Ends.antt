@@ -20,32 +20,32 @@ pub record Next (log : List ℕ) (b e : ℕ) : Type 0 where
   pub same : processorAt log e ≡ processorAt log b
   pub none : (j : ℕ) → b < j → j < e → processorAt log j ≢ processorAt log b
 
+pub fin-is : (log : List ℕ) (b : ℕ) → 0 < b → endAt log b ≡ nextOf log (processorAt log b) (suc b) (length log - suc b)
+unfolding endAt
+fin-is log zero a = absurd (omega arith)
+fin-is log (suc k) a = refl
+
 module _ (log : List ℕ) (b : ℕ) (real : 0 < b) where
   test : ℕ → Bool
   test j = eqb (processorAt log j) (processorAt log b)
 
-  fin-is : (b : ℕ) → 0 < b → endAt log b ≡ nextOf log (processorAt log b) (suc b) (length log - suc b)
-  unfolding endAt
-  fin-is zero a = absurd (omega arith)
-  fin-is (suc k) a = refl
-
   pub fin-of : (e : ℕ) → Next log b e → endAt log b ≡ e
   unfolding test
   fin-of e n =
-      fin-is b real
+      fin-is log b real
       ∙ first-is test (suc b) (length log - suc b) e (n .after) (omega arith) (eq→T (processorAt log e) (processorAt log b) (n .same))
       (λ j x y z. n .none j x y (eqb→eq (processorAt log j) (processorAt log b) z))
 
   no-row : (j : ℕ) → b < j → j < length log → j < endAt log b → processorAt log j ≢ processorAt log b
   unfolding test
   no-row j x y z w =
-      omega (arith, fin-is b real, first-least test (suc b) (length log - suc b) j x (omega arith) (eq→T (processorAt log j) (processorAt log b) w))
+      omega (arith, fin-is log b real, first-least test (suc b) (length log - suc b) j x (omega arith) (eq→T (processorAt log j) (processorAt log b) w))
 
   pub fin-next : endAt log b < length log → b < length log → Next log b (endAt log b)
   unfolding test
   fin-next a i =
       let g = first-ge test (suc b) (length log - suc b) in
-      let q = fin-is b real in
+      let q = fin-is log b real in
       record {
         after = omega arith;
         inside = a;
@@ -55,7 +55,7 @@ module _ (log : List ℕ) (b : ℕ) (real : 0 < b) where
 
   pub fin-le : b < length log → endAt log b ≤ length log
   unfolding test
-  fin-le a = omega (arith, fin-is b real, first-le test (suc b) (length log - suc b))
+  fin-le a = omega (arith, fin-is log b real, first-le test (suc b) (length log - suc b))
 
   pub fin-none : length log ≤ endAt log b → (j : ℕ) → b < j → j < length log → processorAt log j ≢ processorAt log b
   fin-none a j x y = no-row j x y (omega arith)

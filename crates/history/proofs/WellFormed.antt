@@ -8,7 +8,8 @@ use mathlib.Core.Logic.{_⊎_, inl, inr}
 use mathlib.Core.List.{List}
 use lib.Dec.{T, eqb, ltb, eqb→eq, ltb→lt}
 use lib.ListN.{length, getD, List·getD-eq-default}
-use Rattle.history.specs.History.{nextOf, eventAt, endAt, historyOf}
+use Rattle.history.specs.History.{eventAt, endAt, historyOf}
+use Rattle.history.proofs.Ends.{fin-is}
 use Rattle.history.proofs.Placement.{Laws}
 use Rattle.words.proofs.Laws.Choice.{eq→T, T-left, T-right}
 use Rattle.history.specs.Search.{first}
@@ -39,11 +40,6 @@ module _ (log : List ℕ) (wf : T (wellFormed log)) where
   kind-is zero a = absurd (omega arith)
   kind-is (suc k) a = refl
 
-  fin-is : (b : ℕ) → 0 < b → endAt log b ≡ nextOf log (processorAt log b) (suc b) (length log - suc b)
-  unfolding endAt
-  fin-is zero a = absurd (omega arith)
-  fin-is (suc k) a = refl
-
   outside : (k : ℕ) → length log ≤ k → kindAt log k ≡ 0
   unfolding kindAt
   outside k a = rw (List·getD-eq-default log 0 a)
@@ -62,13 +58,13 @@ module _ (log : List ℕ) (wf : T (wellFormed log)) where
   fin-bounds : (b : ℕ) → 0 < b → b < length log → (b < endAt log b) × (endAt log b ≤ length log)
   unfolding same
   fin-bounds b a c =
-      rw (fin-is b a) (omega (arith, first-ge (same b) (suc b) (length log - suc b), first-le (same b) (suc b) (length log - suc b)))
+      rw (fin-is log b a) (omega (arith, first-ge (same b) (suc b) (length log - suc b), first-le (same b) (suc b) (length log - suc b)))
 
   -- At its end row an operation is open.
   opened : (b e : ℕ) → endAt log b ≡ e → 0 < b → b < length log → T (beginsAt log b) → e < length log → Opened log (processorAt log e) e b
   unfolding same
   opened b e p a c t d =
-      let q : first (same b) (suc b) (length log - suc b) ≡ e = sym (fin-is b a) ∙ p in
+      let q : first (same b) (suc b) (length log - suc b) ≡ e = sym (fin-is log b a) ∙ p in
       let u : T (same b e) = rw q at (first-passes (same b) (suc b) (length log - suc b) (omega arith)) in
       let v : processorAt log e ≡ processorAt log b = eqb→eq _ _ u in
       record {
@@ -82,7 +78,7 @@ module _ (log : List ℕ) (wf : T (wellFormed log)) where
   closes : (b e : ℕ) → e < length log → Opened log (processorAt log e) e b → endAt log b ≡ e
   unfolding same
   closes b e c o =
-      fin-is b (o .real)
+      fin-is log b (o .real)
       ∙ first-is (same b) (suc b) (length log - suc b) e (o .before) (omega arith) (eq→T (processorAt log e) (processorAt log b) (sym (o .own)))
       (λ j x y z. o .none j x y (eqb→eq (processorAt log j) (processorAt log b) z ∙ o .own))
 
@@ -184,7 +180,7 @@ module _ (log : List ℕ) (wf : T (wellFormed log)) where
             own = own;
             none = λ j u v z. omega (
               arith,
-              fin-is a p,
+              fin-is log a p,
               inside b (omega arith),
               first-least (same a) (suc a) (length log - suc a) j u (omega (arith, inside b (omega arith))) (eq→T (processorAt log j) (processorAt log a) (z ∙ sym own)),
             );

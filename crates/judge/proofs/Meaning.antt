@@ -6,7 +6,7 @@ use mathlib.Core.Path.{_≡_, refl, sym, ap, _∙_}
 use mathlib.Core.Bool.{Bool, true, false}
 use mathlib.Core.Logic.{_↔_}
 use mathlib.Core.List.{List}
-use lib.ListN.{length, take, drop}
+use lib.ListN.{length, take, drop, length-take}
 use lib.Seq.{drop-at}
 use borrow.Author.Tests.{eq-eqb, ne-eqb}
 use Rattle.words.proofs.Laws.Choice.{T-left}
@@ -22,7 +22,7 @@ use Rattle.history.proofs.WellFormed.{laws}
 use Rattle.history.proofs.Verdict.{before-missing, none-with}
 use Rattle.history.proofs.Theorems.{at-most-one, has-earliest, ordered-if-swept}
 use Rattle.judge.specs.Answer.{Answer, refused, noOrder, accepted, answer, rightLength, beginsTo, answerOf, laid, orderOf, numberOf, bytesNumber}
-use Rattle.judge.specs.Meaning.{RightLength, Formed, Roomy, Means, Ordered, BytesOrdered}
+use Rattle.judge.specs.Meaning.{RightLength, Formed, Roomy, Means, Ordered, BytesOrdered, Fits}
 use Rattle.judge.specs.declared.verdict.Verdict.{Verdict}
 use Rattle.judge.specs.declared.verdict.Verdict.the-variants.{Accepted, WrongLength, Malformed, NoRoom, NoOrder}
 use Rattle.judge.proofs.Asked.{right→, wrong, cases-9, cases-10, cases-11, cases-12, cases-yes, number-9, number-10, number-12, number-0}
@@ -91,6 +91,13 @@ module _ (log o : List ℕ) where
           },
         ),
       )
+
+pub fits : (log o e : List ℕ) (v : Verdict) → Means log o e v → Fits v e
+fits log o e (Accepted n) m = (omega (arith, m .count, length-take n e), m .count)
+fits log o e WrongLength m = tt
+fits log o e Malformed m = tt
+fits log o e NoRoom m = tt
+fits log o e (NoOrder r) m = tt
 
 -- A log is accepted exactly if it has an order.
 pub accepted-if-ordered : (log : List ℕ) (n : ℕ) → Formed log → beginsTo log (length log) ≤ n

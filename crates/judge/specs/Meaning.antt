@@ -74,6 +74,14 @@ Means log o e Malformed = No10 log o e
 Means log o e NoRoom = No11 log o e
 Means log o e (NoOrder r) = No12 log o e r
 
+-- an order's operations are within the places e
+abbrev pub Fits : Verdict → List ℕ → Type 0
+Fits (Accepted n) e = (n ≤ length e) × (n ≡ length (take n e))
+Fits WrongLength e = Unit {0}
+Fits Malformed e = Unit {0}
+Fits NoRoom e = Unit {0}
+Fits (NoOrder r) e = Unit {0}
+
 -- rows that pass questions 9 and 10 and have an order
 pub record Ordered (log : List ℕ) : Type 0 where
   pub log-ok : Formed log

@@ -4,23 +4,16 @@ use native.Mathlib.Omega.{arith}
 use mathlib.Core.Path.{_≡_, refl}
 use mathlib.Core.Logic.{_≢_}
 use mathlib.Core.List.{List}
-use lib.ListN.{length, length-take}
+use lib.ListN.{length}
 use borrow.Author.Tests.{eq-eqb, ne-eqb}
 use Rattle.logbytes.specs.Bytes.{rowsOf}
 use Rattle.judge.specs.Answer.{answer}
-use Rattle.judge.specs.Meaning.{Means}
+use Rattle.judge.specs.Meaning.{Fits}
 use Rattle.judge.specs.declared.verdict.Verdict.{Verdict}
-use Rattle.judge.specs.declared.verdict.Verdict.the-variants.{Accepted, WrongLength, Malformed, NoRoom, NoOrder}
+use Rattle.judge.specs.declared.verdict.Verdict.the-variants.{WrongLength}
 use Rattle.judge.proofs.ByteLaws.{rows-length}
-use Rattle.judge.proofs.Meaning.{Says, says-9}
-use Rattle.verdict.specs.Log.{logAnswer, logOrder, Fits}
-
-fits : (log o e : List ℕ) (v : Verdict) → Means log o e v → Fits v e
-fits log o e (Accepted n) m = (omega (arith, m .count, length-take n e), m .count)
-fits log o e WrongLength m = tt
-fits log o e Malformed m = tt
-fits log o e NoRoom m = tt
-fits log o e (NoOrder r) m = tt
+use Rattle.judge.proofs.Meaning.{Says, says-9, fits}
+use Rattle.verdict.specs.Log.{logAnswer, logOrder}
 
 -- what judge_log says
 abbrev pub LogSays : List ℕ → List ℕ → List ℕ → Verdict → Type 0

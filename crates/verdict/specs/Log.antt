@@ -5,21 +5,10 @@ use lib.Dec.{eqb}
 use lib.ListN.{length}
 use Rattle.words.specs.Choice.{pick}
 use Rattle.logbytes.specs.Bytes.{rowsOf}
-use Rattle.io.specs.Counts.{Counts}
 use Rattle.judge.specs.Answer.{Answer, refused, answerOf, orderOf}
-use Rattle.judge.specs.declared.verdict.Verdict.{Verdict}
-use Rattle.judge.specs.declared.verdict.Verdict.the-variants.{Accepted, WrongLength, Malformed, NoRoom, NoOrder}
 
 unfoldable pub logAnswer : List ℕ → ℕ → Answer
 logAnswer b places = pick (eqb (length b % 8) 0) (answerOf (rowsOf b) places) (refused 9)
 
 unfoldable pub logOrder : List ℕ → List ℕ → List ℕ
 logOrder b o = pick (eqb (length b % 8) 0) (orderOf (rowsOf b) o) o
-
--- an order's operations are within the places
-abbrev pub Fits : Verdict → List ℕ → Type 0
-Fits (Accepted n) e = Counts n e
-Fits WrongLength e = Unit {0}
-Fits Malformed e = Unit {0}
-Fits NoRoom e = Unit {0}
-Fits (NoOrder r) e = Unit {0}

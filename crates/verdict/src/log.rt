@@ -3,7 +3,8 @@ use judge::verdict::Verdict;
 ghost use mathlib.Core.Path.{_≡_};
 ghost use lib.ListN.{length};
 ghost use Rattle.judge.specs.Answer.{answer};
-ghost use Rattle.verdict.specs.Log.{logAnswer, logOrder, Fits};
+ghost use Rattle.verdict.specs.Log.{logAnswer, logOrder};
+ghost use Rattle.judge.specs.Meaning.{Fits};
 
 // The verdict, and the order in the lent places.
 pub(crate) fn judge_log(bytes: &[u8], order: &mut [u64]) -> Verdict
