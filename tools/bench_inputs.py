@@ -1,18 +1,5 @@
-#!/usr/bin/env python3
-"""Inputs for the bench, and what the outside model prints for each.
+"""Inputs for the bench, the same at every run. `prints.py` writes them."""
 
-    bench_inputs.py OUTDIR
-
-Writes the same input files to OUTDIR at every run and prints, for the files in sorted
-order, what `model.py bench` prints for each. OUTDIR must hold no other .txt file.
-"""
-
-import sys
-from pathlib import Path
-
-sys.dont_write_bytecode = True
-
-from model import bench
 from verdict_logs import dice
 
 EXAMPLE = b'1 7\nW 9\nS 0\nS 0\nR 1\n' + b'S 1\n' * 5
@@ -110,12 +97,6 @@ def inputs():
             yield f'random-{n}-{k + 1}', random_input(dice(1000 * n + k), n, calls)
 
 
-def main(out):
-    for k, (name, data) in enumerate(inputs(), 1):
-        (out / f'{k:03}-{name}.txt').write_bytes(data)
-    for path in sorted(out.glob('*.txt')):
-        sys.stdout.write(bench(path.read_bytes()[:65537]))
-
-
-if __name__ == '__main__':
-    main(Path(sys.argv[1]))
+def bench_inputs():
+    """The input files, by name."""
+    return {f'{k:03}-{name}.txt': data for k, (name, data) in enumerate(inputs(), 1)}

@@ -91,5 +91,10 @@ def draw(readers, start, operations, order, offending):
     return '\n'.join(out + ['</svg>', ''])
 
 
+def picture(print_):
+    """The picture of a print."""
+    return draw(*parse(print_.splitlines()))
+
+
 if __name__ == '__main__':
-    sys.stdout.write(draw(*parse(sys.stdin.read().splitlines())))
+    sys.stdout.write(picture(sys.stdin.read()))

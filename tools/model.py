@@ -1,5 +1,6 @@
 #!/usr/bin/env python3
-"""Outside model of the arrow register and its judge, written from document 01 alone.
+"""Outside model of the arrow register and its judge, written from document 01 alone, and from
+document 02 for the requests that have landed (card 6).
 
     model.py bench              text on standard input, the bench's print on standard output
     model.py verdict            one line for the log whose bytes are on standard input
@@ -7,7 +8,7 @@
     model.py selftest           the sessions of document 01, and brute force against the sweep
 
 The sections stand in the order of document 01, the buyer's scope. Quoted words are its
-own; “Open:” marks a choice where it leaves a point open.
+own, or document 02's where that is said; “Open:” marks a choice where it leaves a point open.
 """
 
 import random
@@ -320,18 +321,21 @@ def earliest_writes(deeds, start):
     return earliest
 
 
-def earliest_placed(deeds, earliest):
-    """“Reads behind one write go by begin row. The unended write is listed only if a read
+def is_earliest_placed(order, earliest):
+    """“each read stands behind the earliest write that any order gives it”; “Reads behind one
+    write shall go by end row” (02, card 6); “The unended write is listed only if a read
     stands behind it”."""
-    def behind(row):
-        return sorted((d for d in earliest if earliest[d] == row), key=lambda d: d.begin)
-
-    order = behind(0)
-    for write in (deed for deed in deeds if deed.is_write):
-        reads = behind(write.begin)
-        if write.end is not None or reads:
-            order += [write] + reads
-    return order
+    last, ended = 0, 0  # the last write and, behind it, the last read's end row
+    unread = None  # the unended write, as long as no read stands behind it
+    for deed in order:
+        if deed.is_write:
+            last, ended = deed.begin, 0
+            unread = deed if deed.end is None else None
+        elif last != earliest[deed] or deed.end < ended:
+            return False
+        else:
+            ended, unread = deed.end, None
+    return unread is None
 
 
 def first_without_order(deeds, start):
@@ -351,9 +355,10 @@ def brute(rows):
     earliest = earliest_writes(deeds, start)
     if earliest is None:
         return ('refused', 12, first_without_order(deeds, start))
-    order = earliest_placed(deeds, earliest)
-    must(is_order(order, start), 'the earliest-placed order is an order')
-    return ('order', [deed.begin for deed in order])
+    placed = [order for order in orders(deeds, start) if is_earliest_placed(order, earliest)]
+    equal(len(placed), 1, 'number of earliest-placed orders')
+    must(is_order(placed[0], start), 'the earliest-placed order is an order')
+    return ('order', [deed.begin for deed in placed[0]])
 
 
 # The same judgment in one pass over the rows.
@@ -366,7 +371,7 @@ def brute(rows):
 #     precedes the read), and
 #   - not below the q of any read that ended before that row (else that read precedes this).
 # These are needed; and with them the writes by begin row, each followed by its reads by
-# begin row, respect precedence. The last two bounds are the floor: F at the read's begin, F
+# end row, respect precedence. The last two bounds are the floor: F at the read's begin, F
 # being the newest write shown by an ended operation. Going by end row, the least q at or
 # above the floor is, by induction, at most the q that any order gives the read, since its
 # floor comes from least choices too. So if a read finds none there is no order, and
@@ -406,7 +411,7 @@ def sweep(rows):
         return ('refused', 12, min(failing))
     if write_open and not reads_behind[write]:
         del reads_behind[write]
-    order = [b for q, reads in reads_behind.items() for b in [q] + sorted(reads)]
+    order = [b for q, reads in reads_behind.items() for b in [q] + reads]
     return ('order', order[1:])  # without the start
 
 
@@ -837,6 +842,9 @@ JUDGE_SESSIONS = [
     (2, 7, '', 'order'),
     # Open: all writes are kept when the row of refusal 12 is sought.
     (2, 7, 'R 1, W 5, w, r 1 5, R 2, r 2 7', 'no order 5'),
+    # Card 6: reads behind the start, and behind a write, by end row; the row of 12 by begin row.
+    (2, 7, 'R 1, R 2, r 2 7, r 1 7, W 5, R 1, R 2, r 2 5, r 1 5', 'order 2 1 5 7 6'),
+    (2, 7, 'W 5, w, R 1, R 2, r 2 7, r 1 7', 'no order 3'),
 ]
 
 MALFORMED = [

@@ -109,13 +109,14 @@ def round_of(n, seed, sum_):
     return sum_
 
 
-def main(rounds):
+def soak_lines(rounds=4):
     for n in range(1, 17):
         sum_ = SEED
         for k in range(rounds):
             sum_ = round_of(n, SEED ^ (n << 32 | k), sum_)
-        print(f'n {n}: {sum_:016x}')
+        yield f'n {n}: {sum_:016x}'
 
 
 if __name__ == '__main__':
-    main(int(sys.argv[1]) if len(sys.argv) > 1 else 4)
+    for line in soak_lines(*map(int, sys.argv[1:])):
+        print(line)

@@ -1,17 +1,11 @@
-#!/usr/bin/env python3
-"""What the program trials must print, by the outside model.
-
-    trials_expected.py
+"""What the program trials must print, by the outside model. `prints.py` writes it.
 
 The trials stand in the program's order. Every answer is the model's; that a refused call
 leaves state, table and log “unaltered” is document 01's “A no gives its number and alters
 nothing”.
 """
 
-import sys
 from dataclasses import replace
-
-sys.dont_write_bytecode = True
 
 from model import (
     FIRST_STAMP, NO_STAMP, Range, Register, bytes_of, call_line, in_range, judge, judge_bytes,
@@ -228,10 +222,11 @@ ORDERS = [
     (16, 'R 1, W 5, w, r 1 5, R 2, r 2 7'),
     (16, 'W 5, R 1, r 1 7'),
     (16, 'R 1, R 2, W 5, r 2 5, r 1 7'),
+    (16, 'R 1, R 2, r 2 7, r 1 7, W 5, R 1, R 2, r 2 5, r 1 5'),
 ]
 
 
-def lines():
+def trials_lines():
     yield from sessions()
     yield from (set_up_line(*sizes) for sizes in SET_UPS)
     yield from (script_line(*script) for script in SCRIPTS)
@@ -240,7 +235,3 @@ def lines():
     yield from (log_line(rows, 0) for rows in MALFORMED)
     for places, text in ORDERS:
         yield f'places {places}, ' + log_line(log_of(2, 7, text), places)
-
-
-if __name__ == '__main__':
-    print('\n'.join(lines()))

@@ -1,17 +1,6 @@
-#!/usr/bin/env python3
-"""Logs for a judge, and what the outside model says of each.
-
-    verdict_logs.py OUTDIR
-
-Writes the same log files to OUTDIR at every run and prints, for the files in sorted
-order, one verdict line each as `model.py verdict` gives it. Small logs are judged twice,
-by the definition of an order and by the sweep. OUTDIR must hold no other .log file.
-"""
-
-import sys
-from pathlib import Path
-
-sys.dont_write_bytecode = True
+"""Logs for the program verdict, the same at every run, and the line that the outside model gives
+for each. Small logs are judged twice, by the definition of an order and by the sweep.
+`prints.py` writes them."""
 
 from model import (
     MAX_ROWS, brute, bytes_of, damaged, equal, judge_bytes, log_of, must, pack_row, random_log,
@@ -93,6 +82,20 @@ WRITTEN_LOGS = [
     ('fails-again-later', 2, 7, 'W 5, R 1, r 1 5, R 2, r 2 7, w, R 1, r 1 7, R 2, r 2 5'),
 ]
 
+# Logs of the requests of document 02, as they landed; they stand last, so that no file before them is renumbered.
+REQUESTED_LOGS = [
+    # Card 6, reads in the order they ended.
+    ('ends-behind-the-start', 2, 7, 'R 1, R 2, r 2 7, r 1 7'),
+    ('ends-behind-a-write', 3, 7, 'W 5, w, R 1, R 2, R 3, r 3 5, r 1 5, r 2 5'),
+    ('ends-behind-the-unended-write', 2, 7, 'W 5, R 2, R 1, r 1 5, r 2 5'),
+    ('ends-before-and-after-the-write', 3, 7, 'W 5, R 1, R 2, r 2 5, w, R 3, r 3 5, r 1 5'),
+    ('ends-behind-each', 2, 7, 'R 1, R 2, r 2 7, r 1 7, W 5, R 1, R 2, r 2 5, r 1 5'),
+    ('ends-later-but-behind-the-start', 2, 7, 'R 1, W 5, R 2, r 2 5, r 1 7'),
+    ('ends-of-one-reader-between', 2, 7, 'R 1, R 2, r 2 7, R 2, r 2 7, R 2, r 1 7, r 2 7'),
+    ('ends-falling-sixteen', 16, 7,
+     ', '.join([f'R {i}' for i in range(1, 17)] + [f'r {i} 7' for i in range(16, 0, -1)])),
+]
+
 START, OPEN_WRITE, OPEN_READ = log_of(2, 7), log_of(2, 7, 'W 5'), log_of(2, 7, 'R 1')
 
 # name, rows
@@ -166,16 +169,26 @@ def random_logs():
         yield f'random-{k + 1}', bytes_of(rows)
 
 
+def written_logs(logs):
+    for name, n, start, text in logs:
+        yield name, bytes_of(log_of(n, start, text))
+
+
 def all_logs():
     """Every log with its name."""
-    for name, n, start, text in WRITTEN_LOGS:
-        yield name, bytes_of(log_of(n, start, text))
+    yield from written_logs(WRITTEN_LOGS)
     for name, rows in MALFORMED_LOGS:
         yield 'malformed-' + name, bytes_of(rows)
     yield from odd_lengths()
     yield from long_logs()
     yield from register_logs()
     yield from random_logs()
+    yield from written_logs(REQUESTED_LOGS)
+
+
+def verdict_logs():
+    """The log files, by name."""
+    return {f'{k:03}-{name}.log': data for k, (name, data) in enumerate(all_logs(), 1)}
 
 
 def expected(name, data):
@@ -188,21 +201,4 @@ def expected(name, data):
     return verdict(answer)
 
 
-def main(arguments):
-    """See the head of this file."""
-    if len(arguments) != 1:
-        sys.exit(__doc__)
-    directory = Path(arguments[0])
-    directory.mkdir(parents=True, exist_ok=True)
-    files = {f'{k:03}-{name}.log': data for k, (name, data) in enumerate(all_logs(), 1)}
-    lines = [expected(name, data) + '\n' for name, data in sorted(files.items())]
-    strangers = {path.name for path in directory.glob('*.log')} - set(files)
-    if strangers:
-        sys.exit(f'other logs in {directory}: {sorted(strangers)}')
-    for name, data in files.items():
-        (directory / name).write_bytes(data)
-    sys.stdout.write(''.join(lines))
-
-
-if __name__ == '__main__':
-    main(sys.argv[1:])
+STANDARD_INPUT = dict(written_logs(WRITTEN_LOGS))['twice-alternating']

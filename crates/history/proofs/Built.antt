@@ -17,7 +17,7 @@ use Rattle.words.specs.Choice.{pick}
 use Rattle.words.proofs.Laws.Choice.{eq→T, and-T, T-left, T-right}
 use Rattle.history.proofs.Rising.{stands-left, stands-right, stands-cases, Rising, rising-lower, rising-upper, rising-append, rising-lt, rising-before}
 use Rattle.history.specs.Sweep.{isRead}
-use Rattle.history.specs.Listing.{behind, isListed, group, build}
+use Rattle.history.specs.Listing.{endsBehind, behind, isListed, group, build}
 
 -- What the tests say.
 pub read→ : (h : History) (m r : ℕ) → r < m → T (isRead h r) → Read h m r
@@ -30,58 +30,66 @@ read→ h m r a t = record {
 pub →read : (h : History) (m r : ℕ) → Read h m r → T (isRead h r)
 →read h m r x = and-T (eqb (h .kind r) 3) _ (eq→T _ _ (x .is)) (lt→ltb _ _ (x .ended))
 
--- The reads behind a write.
-pub behind-only : (h : History) (p : ℕ → ℕ) (q k i x : ℕ) → Stands (behind h p q k) i x → Read h k x × (p x ≡ q)
-unfolding behind
-behind-only h p q zero i x s = absurd (omega arith)
-behind-only h p q (suc r) i x s = go (stands-cases (behind h p q r) _ i x s) (λ j. behind-only h p q r j x)
-  where
-    one : (b : Bool) → (T b → Read h (suc r) r × (p r ≡ q)) → (j : ℕ) → Stands (pick b (r ∷ []) []) j x → Read h (suc r) x × (p x ≡ q)
-    one true f zero t = rw (← t .there) (f tt)
-    one true f (suc j) t = absurd (omega arith)
-    one false f j t = absurd (omega arith)
+module _ (h : History) (L : Laws h) (m : ℕ) (p : ℕ → ℕ) (q : ℕ) where
+  -- The read that a row ends.
+  ends→ : (e : ℕ) → T (endsBehind h m p q e) → Read h m (h .begin e) × (p (h .begin e) ≡ q) × (h .end (h .begin e) ≡ e)
+  ends→ e t =
+      let d = L .ended-read e (eqb→eq _ _ (T-left (eqb (h .kind e) 4) _ t)) in
+      let u : T (ltb (h .begin e) m && eqb (p (h .begin e)) q) = T-right (eqb (h .kind e) 4) _ t in (
+        record { is = d .0; ended = omega arith; under = ltb→lt _ _ (T-left (ltb (h .begin e) m) _ u) },
+        eqb→eq _ _ (T-right (ltb (h .begin e) m) _ u),
+        d .1,
+      )
 
-    go : Stands (behind h p q r) i x ⊎ ((j : ℕ) × Stands (pick (isRead h r && eqb (p r) q) (r ∷ []) []) j x)
-        → ((j : ℕ) → Stands (behind h p q r) j x → Read h r x × (p x ≡ q)) → Read h (suc r) x × (p x ≡ q)
-    go (inl t) f = let d = f i t in (record { is = d .0 .is; ended = d .0 .ended; under = omega arith }, d .1)
-    go (inr t) f =
-        one (isRead h r && eqb (p r) q)
-        (λ u. (read→ h (suc r) r (omega arith) (T-left (isRead h r) _ u), eqb→eq _ _ (T-right (isRead h r) _ u))) (t .0) (t .1)
+  →ends : (x : ℕ) → Read h m x → p x ≡ q → T (endsBehind h m p q (h .end x))
+  →ends x y e =
+      let d = L .read-done x (y .is) (y .ended) in
+      and-T (eqb (h .kind (h .end x)) 4) _ (eq→T _ _ (d .0)) (rw (d .1) (and-T (ltb x m) _ (lt→ltb _ _ (y .under)) (eq→T _ _ e)))
 
-pub behind-has : (h : History) (p : ℕ → ℕ) (q k x : ℕ) → Read h k x → p x ≡ q → (i : ℕ) × Stands (behind h p q k) i x
-unfolding behind
-behind-has h p q zero x y e = absurd (omega arith)
-behind-has h p q (suc r) x y e = go (ℕ-discrete x r) (λ y′. behind-has h p q r x y′ e)
-  where
-    here : (b : Bool) → T b → x ≡ r → Stands (pick b (r ∷ []) []) 0 x
-    here true t d = record { within = omega arith; there = sym d }
+  -- The reads behind a write.
+  pub behind-only : (k i x : ℕ) → Stands (behind h m p q k) i x → Read h m x × (p x ≡ q)
+  unfolding behind
+  behind-only zero i x s = absurd (omega arith)
+  behind-only (suc e) i x s = go (stands-cases (behind h m p q e) _ i x s) (behind-only e i x)
+    where
+      one : (b : Bool) → (T b → Read h m (h .begin e) × (p (h .begin e) ≡ q)) → (j : ℕ) → Stands (pick b (h .begin e ∷ []) []) j x → Read h m x × (p x ≡ q)
+      one true f zero t = rw (← t .there) (f tt)
+      one true f (suc j) t = absurd (omega arith)
+      one false f j t = absurd (omega arith)
 
-    go : Dec (x ≡ r) → (Read h r x → (i : ℕ) × Stands (behind h p q r) i x) → (i : ℕ) × Stands (behind h p q (suc r)) i x
-    go (yes d) f =
-        let t : T (isRead h r && eqb (p r) q) =
-        rw (← d) (and-T (isRead h x) _ (→read h (suc r) x y) (eq→T _ _ e)) in
-        (length (behind h p q r) + 0, stands-right (behind h p q r) _ 0 x (here (isRead h r && eqb (p r) q) t d))
-    go (no n) f =
-        let s = f (record { is = y .is; ended = y .ended; under = omega arith }) in
-        (s .0, stands-left (behind h p q r) _ (s .0) x (s .1))
+      go : Stands (behind h m p q e) i x ⊎ ((j : ℕ) × Stands (pick (endsBehind h m p q e) (h .begin e ∷ []) []) j x)
+          → (Stands (behind h m p q e) i x → Read h m x × (p x ≡ q)) → Read h m x × (p x ≡ q)
+      go (inl t) f = f t
+      go (inr t) f = one (endsBehind h m p q e) (λ u. let d = ends→ e u in (d .0, d .1)) (t .0) (t .1)
 
--- The key of an operation.
-unfoldable pub pos : History → (ℕ → ℕ) → ℕ → ℕ
-pos h p x = pick (eqb (h .kind x) 1) x (p x)
+  pub behind-has : (k x : ℕ) → Read h m x → p x ≡ q → h .end x < k → (i : ℕ) × Stands (behind h m p q k) i x
+  unfolding behind
+  behind-has zero x y e a = absurd (omega arith)
+  behind-has (suc k) x y e a = go (ℕ-discrete (h .end x) k) (behind-has k x y e)
+    where
+      here : (b : Bool) → T b → h .begin k ≡ x → Stands (pick b (h .begin k ∷ []) []) 0 x
+      here true t d = record { within = omega arith; there = d }
 
-unfoldable pub off : History → ℕ → ℕ
-off h x = pick (eqb (h .kind x) 1) 0 (suc x)
+      go : Dec (h .end x ≡ k) → (h .end x < k → (i : ℕ) × Stands (behind h m p q k) i x) → (i : ℕ) × Stands (behind h m p q (suc k)) i x
+      go (yes d) f =
+          let t : T (endsBehind h m p q k) = rw (← d) (→ends x y e) in
+          let b : h .begin k ≡ x = rw (← d) (L .read-done x (y .is) (y .ended) .1) in
+          (length (behind h m p q k) + 0, stands-right (behind h m p q k) _ 0 x (here (endsBehind h m p q k) t b))
+      go (no n) f =
+          let s = f (omega arith) in
+          (s .0, stands-left (behind h m p q k) _ (s .0) x (s .1))
 
+-- The key by which the operations of a listing rise: a write's own row, then a read's place and end row.
 unfoldable pub key : History → (ℕ → ℕ) → ℕ → ℕ
-key h p x = pos h p x * suc (h .len) + off h x
+key h p x = pick (eqb (h .kind x) 1) (x * suc (h .len)) (p x * suc (h .len) + suc (h .end x))
 
 pub key-write : (h : History) (p : ℕ → ℕ) (x : ℕ) → h .kind x ≡ 1 → key h p x ≡ x * suc (h .len)
-unfolding key pos off
-key-write h p x e = rw e (omega arith)
+unfolding key
+key-write h p x e = rw e
 
-pub key-read : (h : History) (p : ℕ → ℕ) (x : ℕ) → h .kind x ≡ 3 → key h p x ≡ p x * suc (h .len) + suc x
-unfolding key pos off
-key-read h p x e = rw e (omega arith)
+pub key-read : (h : History) (p : ℕ → ℕ) (x : ℕ) → h .kind x ≡ 3 → key h p x ≡ p x * suc (h .len) + suc (h .end x)
+unfolding key
+key-read h p x e = rw e
 
 -- Keys of an earlier group, or of an earlier place in the group, are smaller.
 pub lex : (N q q′ x x′ : ℕ) → q ≤ q′ → x < x′ → q * N + x < q′ * N + x′
@@ -90,17 +98,17 @@ lex N q q′ x x′ a b = omega (arith, mul-le-mul-right N a)
 pub lex′ : (N q q′ x x′ : ℕ) → q < q′ → x < N → q * N + x < q′ * N + x′
 lex′ N q q′ x x′ a b = omega (arith, mul-le-mul-right N a)
 
-behind-rising : (h : History) (p : ℕ → ℕ) (q k : ℕ) → Rising (key h p) (q * suc (h .len) + 1) (behind h p q k) (q * suc (h .len) + suc k)
+behind-rising : (h : History) (L : Laws h) (m : ℕ) (p : ℕ → ℕ) (q k : ℕ)
+    → Rising (key h p) (q * suc (h .len) + 1) (behind h m p q k) (q * suc (h .len) + suc k)
 unfolding behind
-behind-rising h p q zero = omega arith
-behind-rising h p q (suc r) =
-    rising-append (key h p) (behind h p q r) _ _ _ _ (behind-rising h p q r)
-    (one (isRead h r && eqb (p r) q) (λ u. let x = read→ h (suc r) r (omega arith) (T-left (isRead h r) _ u) in
-    let e : p r ≡ q = eqb→eq _ _ (T-right (isRead h r) _ u) in
-    key-read h p r (x .is) ∙ rw e))
+behind-rising h L m p q zero = omega arith
+behind-rising h L m p q (suc e) =
+    rising-append (key h p) (behind h m p q e) _ _ _ _ (behind-rising h L m p q e)
+    (one (endsBehind h m p q e) (λ u. let d = ends→ h L m p q e u in key-read h p (h .begin e) (d .0 .is) ∙ rw (d .1, d .2)))
   where
-    one : (b : Bool) → (T b → key h p r ≡ q * suc (h .len) + suc r) → Rising (key h p) (q * suc (h .len) + suc r) (pick b (r ∷ []) []) (q * suc (h .len) + suc (suc r))
-    one true f = let e = f tt in (omega arith, omega arith)
+    one : (b : Bool) → (T b → key h p (h .begin e) ≡ q * suc (h .len) + suc e)
+        → Rising (key h p) (q * suc (h .len) + suc e) (pick b (h .begin e ∷ []) []) (q * suc (h .len) + suc (suc e))
+    one true f = let d = f tt in (omega arith, omega arith)
     one false f = omega arith
 
 -- A group.
@@ -123,71 +131,75 @@ or-right false b t = t
     go (inl a) = or-left (ltb (h .end q) (h .len)) (ltb 0 n) (lt→ltb _ _ a)
     go (inr a) = or-right (ltb (h .end q) (h .len)) (ltb 0 n) (lt→ltb _ _ a)
 
-pub group-only : (h : History) (m : ℕ) (p : ℕ → ℕ) (q i x : ℕ) → Stands (group h m p q) i x → (Write h x × (x ≡ q)) ⊎ (Read h m x × (p x ≡ q))
-unfolding group
-group-only h m p q i x = go (isListed h q (length (behind h p q m))) (listed→ h q (length (behind h p q m))) i
-  where
-    go : (b : Bool) → (T b → Write h q) → (i : ℕ) → Stands (pick b (q ∷ behind h p q m) (behind h p q m)) i x → (Write h x × (x ≡ q)) ⊎ (Read h m x × (p x ≡ q))
-    go true f zero s = inl (rw (← s .there) (f tt), sym (s .there))
-    go true f (suc i) s = inr (behind-only h p q m i x (record { within = omega arith; there = s .there }))
-    go false f i s = inr (behind-only h p q m i x s)
-
 or→ : (a b : Bool) → T (a || b) → T a ⊎ T b
 or→ true b t = inl t
 or→ false b t = inr t
 
--- A listed write has ended, or a read stands behind it.
-group-needed : (h : History) (m : ℕ) (p : ℕ → ℕ) (q i x : ℕ) → Stands (group h m p q) i x → Write h x
-    → (h .end x < h .len) ⊎ ((r : ℕ) × Read h m r × (p r ≡ x))
-unfolding group
-group-needed h m p q i x s w = go (isListed h q (length (behind h p q m))) (λ t. or→ (ltb (h .end q) (h .len)) _ (T-right (eqb (h .kind q) 1 && ltb 0 q) _ t)) i s
-  where
-    no-read : (i : ℕ) → Stands (behind h p q m) i x → ⊥
-    no-read i s = let d = behind-only h p q m i x s in omega (arith, d .0 .is, w .is)
+module _ (h : History) (L : Laws h) (m : ℕ) (p : ℕ → ℕ) (q : ℕ) where
+  -- the reads behind q
+  abbrev rs : List ℕ
+  rs = behind h m p q (h .len)
 
-    which : x ≡ q → T (ltb (h .end q) (h .len)) ⊎ T (ltb 0 (length (behind h p q m))) → (h .end x < h .len) ⊎ ((r : ℕ) × Read h m r × (p r ≡ x))
-    which e (inl t) = inl (rw e (ltb→lt (h .end q) (h .len) t))
-    which e (inr t) =
-        let d = behind-only h p q m 0 (getD (behind h p q m) 0 0) (record { within = ltb→lt _ _ t; there = refl }) in
-        inr (getD (behind h p q m) 0 0, d .0, d .1 ∙ sym e)
+  pub group-only : (i x : ℕ) → Stands (group h m p q) i x → (Write h x × (x ≡ q)) ⊎ (Read h m x × (p x ≡ q))
+  unfolding group
+  group-only i x = go (isListed h q (length rs)) (listed→ h q (length rs)) i
+    where
+      go : (b : Bool) → (T b → Write h q) → (i : ℕ) → Stands (pick b (q ∷ rs) rs) i x → (Write h x × (x ≡ q)) ⊎ (Read h m x × (p x ≡ q))
+      go true f zero s = inl (rw (← s .there) (f tt), sym (s .there))
+      go true f (suc i) s = inr (behind-only h L m p q (h .len) i x (record { within = omega arith; there = s .there }))
+      go false f i s = inr (behind-only h L m p q (h .len) i x s)
 
-    go : (b : Bool) → (T b → T (ltb (h .end q) (h .len)) ⊎ T (ltb 0 (length (behind h p q m)))) → (i : ℕ)
-        → Stands (pick b (q ∷ behind h p q m) (behind h p q m)) i x → (h .end x < h .len) ⊎ ((r : ℕ) × Read h m r × (p r ≡ x))
-    go true f zero s = which (sym (s .there)) (f tt)
-    go true f (suc i) s = absurd (no-read i (record { within = omega arith; there = s .there }))
-    go false f i s = absurd (no-read i s)
+  -- A listed write has ended, or a read stands behind it.
+  group-needed : (i x : ℕ) → Stands (group h m p q) i x → Write h x → (h .end x < h .len) ⊎ ((r : ℕ) × Read h m r × (p r ≡ x))
+  unfolding group
+  group-needed i x s w = go (isListed h q (length rs)) (λ t. or→ (ltb (h .end q) (h .len)) _ (T-right (eqb (h .kind q) 1 && ltb 0 q) _ t)) i s
+    where
+      no-read : (i : ℕ) → Stands rs i x → ⊥
+      no-read i s = let d = behind-only h L m p q (h .len) i x s in omega (arith, d .0 .is, w .is)
 
-group-write : (h : History) (m : ℕ) (p : ℕ → ℕ) (q : ℕ) → Write h q → (h .end q < h .len) ⊎ (0 < length (behind h p q m)) → (i : ℕ) × Stands (group h m p q) i q
-unfolding group
-group-write h m p q w c = go (isListed h q (length (behind h p q m))) (→listed h q (length (behind h p q m)) w c)
-  where
-    go : (b : Bool) → T b → (i : ℕ) × Stands (pick b (q ∷ behind h p q m) (behind h p q m)) i q
-    go true t = (0, record { within = omega arith; there = refl })
+      which : x ≡ q → T (ltb (h .end q) (h .len)) ⊎ T (ltb 0 (length rs)) → (h .end x < h .len) ⊎ ((r : ℕ) × Read h m r × (p r ≡ x))
+      which e (inl t) = inl (rw e (ltb→lt (h .end q) (h .len) t))
+      which e (inr t) =
+          let d = behind-only h L m p q (h .len) 0 (getD rs 0 0) (record { within = ltb→lt _ _ t; there = refl }) in
+          inr (getD rs 0 0, d .0, d .1 ∙ sym e)
 
-group-read : (h : History) (m : ℕ) (p : ℕ → ℕ) (q x : ℕ) → Read h m x → p x ≡ q → (i : ℕ) × Stands (group h m p q) i x
-unfolding group
-group-read h m p q x y e = go (isListed h q (length (behind h p q m))) (behind-has h p q m x y e)
-  where
-    go : (b : Bool) → (i : ℕ) × Stands (behind h p q m) i x → (i : ℕ) × Stands (pick b (q ∷ behind h p q m) (behind h p q m)) i x
-    go true s = (suc (s .0), record { within = omega (arith, s .1); there = s .1 .there })
-    go false s = s
+      go : (b : Bool) → (T b → T (ltb (h .end q) (h .len)) ⊎ T (ltb 0 (length rs))) → (i : ℕ)
+          → Stands (pick b (q ∷ rs) rs) i x → (h .end x < h .len) ⊎ ((r : ℕ) × Read h m r × (p r ≡ x))
+      go true f zero s = which (sym (s .there)) (f tt)
+      go true f (suc i) s = absurd (no-read i (record { within = omega arith; there = s .there }))
+      go false f i s = absurd (no-read i s)
 
-group-rising : (h : History) (m : ℕ) (p : ℕ → ℕ) (q : ℕ) → m ≤ h .len → Rising (key h p) (q * suc (h .len)) (group h m p q) (suc q * suc (h .len))
-unfolding group
-group-rising h m p q a = go (isListed h q (length (behind h p q m))) (listed→ h q (length (behind h p q m)))
-  where
-    rest : Rising (key h p) (q * suc (h .len) + 1) (behind h p q m) (suc q * suc (h .len))
-    rest = rising-upper (key h p) (behind h p q m) (q * suc (h .len) + 1) (q * suc (h .len) + suc m) (suc q * suc (h .len)) (omega arith) (behind-rising h p q m)
+  group-write : Write h q → (h .end q < h .len) ⊎ (0 < length rs) → (i : ℕ) × Stands (group h m p q) i q
+  unfolding group
+  group-write w c = go (isListed h q (length rs)) (→listed h q (length rs) w c)
+    where
+      go : (b : Bool) → T b → (i : ℕ) × Stands (pick b (q ∷ rs) rs) i q
+      go true t = (0, record { within = omega arith; there = refl })
 
-    go : (b : Bool) → (T b → Write h q) → Rising (key h p) (q * suc (h .len)) (pick b (q ∷ behind h p q m) (behind h p q m)) (suc q * suc (h .len))
-    go true f = let e = key-write h p q (f tt .is) in (omega arith, rising-lower (key h p) (behind h p q m) (suc (key h p q)) (q * suc (h .len) + 1) _ (omega arith) rest)
-    go false f = rising-lower (key h p) (behind h p q m) (q * suc (h .len)) (q * suc (h .len) + 1) _ (omega arith) rest
+  group-read : (x : ℕ) → Read h m x → p x ≡ q → (i : ℕ) × Stands (group h m p q) i x
+  unfolding group
+  group-read x y e = go (isListed h q (length rs)) (behind-has h L m p q (h .len) x y e (y .ended))
+    where
+      go : (b : Bool) → (i : ℕ) × Stands rs i x → (i : ℕ) × Stands (pick b (q ∷ rs) rs) i x
+      go true s = (suc (s .0), record { within = omega (arith, s .1); there = s .1 .there })
+      go false s = s
+
+  group-rising : Rising (key h p) (q * suc (h .len)) (group h m p q) (suc q * suc (h .len))
+  unfolding group
+  group-rising = go (isListed h q (length rs)) (listed→ h q (length rs))
+    where
+      rest : Rising (key h p) (q * suc (h .len) + 1) rs (suc q * suc (h .len))
+      rest = rising-upper (key h p) rs (q * suc (h .len) + 1) (q * suc (h .len) + suc (h .len)) (suc q * suc (h .len)) (omega arith) (behind-rising h L m p q (h .len))
+
+      go : (b : Bool) → (T b → Write h q) → Rising (key h p) (q * suc (h .len)) (pick b (q ∷ rs) rs) (suc q * suc (h .len))
+      go true f = let e = key-write h p q (f tt .is) in (omega arith, rising-lower (key h p) rs (suc (key h p q)) (q * suc (h .len) + 1) _ (omega arith) rest)
+      go false f = rising-lower (key h p) rs (q * suc (h .len)) (q * suc (h .len) + 1) _ (omega arith) rest
 
 -- The whole list.
-pub build-rising : (h : History) (m : ℕ) (p : ℕ → ℕ) (n : ℕ) → m ≤ h .len → Rising (key h p) 0 (build h m p n) (n * suc (h .len))
+pub build-rising : (h : History) (L : Laws h) (m : ℕ) (p : ℕ → ℕ) (n : ℕ) → Rising (key h p) 0 (build h m p n) (n * suc (h .len))
 unfolding build
-build-rising h m p zero a = omega arith
-build-rising h m p (suc q) a = rising-append (key h p) (build h m p q) _ _ _ _ (build-rising h m p q a) (group-rising h m p q a)
+build-rising h L m p zero = omega arith
+build-rising h L m p (suc q) = rising-append (key h p) (build h m p q) _ _ _ _ (build-rising h L m p q) (group-rising h L m p q)
 
 pub build-only : (h : History) (m : ℕ) (p : ℕ → ℕ) (n i x : ℕ) → Stands (build h m p n) i x → (j q : ℕ) × Stands (group h m p q) j x
 unfolding build
@@ -208,7 +220,7 @@ build-has h m p (suc n) q j x a s = go (ℕ-discrete q n) (λ b. build-has h m p
     go (yes e) f = (length (build h m p n) + j, stands-right (build h m p n) _ j x (rw (← e) s))
     go (no k) f = let t = f (omega arith) in (t .0, stands-left (build h m p n) _ (t .0) x (t .1))
 
-module _ (h : History) (L : Laws h) (m : ℕ) (fits : m ≤ h .len) (p : ℕ → ℕ) (P : Placement h m p) where
+module _ (h : History) (L : Laws h) (m : ℕ) (p : ℕ → ℕ) (P : Placement h m p) where
   -- What precedes has the smaller key.
   before : (a b : ℕ) → Write h a ⊎ Read h m a → Write h b ⊎ Read h m b → h .end a < b → key h p a < key h p b
   before a b (inl x) (inl y) c =
@@ -216,20 +228,24 @@ module _ (h : History) (L : Laws h) (m : ℕ) (fits : m ≤ h .len) (p : ℕ →
       (omega (arith, lex′ (suc (h .len)) a b 0 0 (omega (arith, L .write-end a (x .is) (x .real))) (omega arith)))
   before a b (inl x) (inr y) c =
       rw (key-write h p a (x .is), key-read h p b (y .is))
-      (omega (arith, lex (suc (h .len)) a (p b) 0 (suc b) (P .late a b (x .is) y c) (omega arith)))
+      (omega (arith, lex (suc (h .len)) a (p b) 0 (suc (h .end b)) (P .late a b (x .is) y c) (omega arith)))
   before a b (inr x) (inl y) c =
       rw (key-read h p a (x .is), key-write h p b (y .is))
-      (omega (arith, lex′ (suc (h .len)) (p a) b (suc a) 0 (omega (arith, P .early a x)) (omega (arith, L .read-end a (x .is)))))
+      (omega (arith, lex′ (suc (h .len)) (p a) b (suc (h .end a)) 0 (omega (arith, P .early a x)) (omega (arith, x .ended))))
   before a b (inr x) (inr y) c =
       rw (key-read h p a (x .is), key-read h p b (y .is))
-      (lex (suc (h .len)) (p a) (p b) (suc a) (suc b) (P .mono a b x y c) (omega (arith, L .read-end a (x .is))))
+      (lex (suc (h .len)) (p a) (p b) (suc (h .end a)) (suc (h .end b)) (P .mono a b x y c) (omega (arith, L .read-end b (y .is))))
+
+  pub key-bound : (x : ℕ) → Write h x ⊎ Read h m x → key h p x < h .len * suc (h .len)
+  key-bound x (inl u) = omega (arith, key-write h p x (u .is), mul-le-mul-right (suc (h .len)) (L .write x (u .is)))
+  key-bound x (inr u) = omega (arith, key-read h p x (u .is), u .ended, mul-le-mul-right (suc (h .len)) (L .write (p x) (P .source x u)))
 
   abbrev pub l : List ℕ
   l = build h m p (h .len)
 
   pub only : (i x : ℕ) → Stands l i x → Write h x ⊎ Read h m x
   unfolding build
-  only i x s = let t = build-only h m p (h .len) i x s in go (group-only h m p (t .1) (t .0) x (t .2))
+  only i x s = let t = build-only h m p (h .len) i x s in go (group-only h L m p (t .1) (t .0) x (t .2))
     where
       go : {q : ℕ} → (Write h x × (x ≡ q)) ⊎ (Read h m x × (p x ≡ q)) → Write h x ⊎ Read h m x
       go (inl u) = inl (u .0)
@@ -237,19 +253,19 @@ module _ (h : History) (L : Laws h) (m : ℕ) (fits : m ≤ h .len) (p : ℕ →
 
   pub has-read : (r : ℕ) → Read h m r → (i : ℕ) × Stands l i r
   unfolding build
-  has-read r x = let t = group-read h m p (p r) r x refl in build-has h m p (h .len) (p r) (t .0) r (L .write (p r) (P .source r x)) (t .1)
+  has-read r x = let t = group-read h L m p (p r) r x refl in build-has h m p (h .len) (p r) (t .0) r (L .write (p r) (P .source r x)) (t .1)
 
-  pub has-write : (w : ℕ) → Write h w → (h .end w < h .len) ⊎ (0 < length (behind h p w m)) → (i : ℕ) × Stands l i w
+  pub has-write : (w : ℕ) → Write h w → (h .end w < h .len) ⊎ (0 < length (behind h m p w (h .len))) → (i : ℕ) × Stands l i w
   unfolding build
-  has-write w x c = let t = group-write h m p w x c in build-has h m p (h .len) w (t .0) w (L .write w (x .is)) (t .1)
+  has-write w x c = let t = group-write h L m p w x c in build-has h m p (h .len) w (t .0) w (L .write w (x .is)) (t .1)
 
   by-key : (i j x y : ℕ) → Stands l i x → Stands l j y → key h p x < key h p y → i < j
   unfolding build
-  by-key i j x y = rising-before (key h p) l 0 (h .len * suc (h .len)) i j x y (build-rising h m p (h .len) fits)
+  by-key i j x y = rising-before (key h p) l 0 (h .len * suc (h .len)) i j x y (build-rising h L m p (h .len))
 
   pub key-by : (i j x y : ℕ) → Stands l i x → Stands l j y → i < j → key h p x < key h p y
   unfolding build
-  key-by i j x y = rising-lt (key h p) l 0 (h .len * suc (h .len)) i j x y (build-rising h m p (h .len) fits)
+  key-by i j x y = rising-lt (key h p) l 0 (h .len * suc (h .len)) i j x y (build-rising h L m p (h .len))
 
   once : (i j x : ℕ) → Stands l i x → Stands l j x → i ≡ j
   once i j x s t = go (decLt i j) (decLt j i)
@@ -259,7 +275,7 @@ module _ (h : History) (L : Laws h) (m : ℕ) (fits : m ≤ h .len) (p : ℕ →
       go (no a) (yes b) = absurd (omega (arith, key-by j i x x t s b))
       go (no a) (no b) = omega arith
 
-  -- The lastWrite write before a read is its place.
+  -- The last write before a read is its place.
   rise : (i j a b : ℕ) → Stands l i a → Stands l j b → h .kind a ≡ 1 → h .kind b ≡ 1 → i < j → a ≤ b
   rise i j a b s t x y c = go (decLt b a)
     where
@@ -284,14 +300,14 @@ module _ (h : History) (L : Laws h) (m : ℕ) (fits : m ≤ h .len) (p : ℕ →
                 key-by (t .0) i (lastWrite h l i) r (t .2) s (t .1),
                 key-write h p (lastWrite h l i) (t .3),
                 key-read h p r (x .is),
-                lex′ (suc (h .len)) (p r) (lastWrite h l i) (suc r) 0 d (omega (arith, L .read-end r (x .is))),
+                lex′ (suc (h .len)) (p r) (lastWrite h l i) (suc (h .end r)) 0 d (omega (arith, x .ended)),
               ))
 
       lower : Dec (0 < p r) → p r ≤ lastWrite h l i
       lower (no n) = omega arith
       lower (yes d) =
           let e = P .source r x in
-          let b = behind-has h p (p r) m r x refl in
+          let b = behind-has h L m p (p r) (h .len) r x refl (x .ended) in
           let t = has-write (p r) (record { is = e; real = d }) (inr (omega (arith, b .1))) in
           let c : t .0 < i = by-key (t .0) i (p r) r (t .1) s
           (rw (key-write h p (p r) e, key-read h p r (x .is)) (omega arith)) in
@@ -308,6 +324,6 @@ module _ (h : History) (L : Laws h) (m : ℕ) (fits : m ≤ h .len) (p : ℕ →
     reading = λ i r s x. ap (h .value) (last-place i r s x) ∙ P .value r x;
   }
 
-pub build-needed : (h : History) (m : ℕ) (p : ℕ → ℕ) (n i x : ℕ) → Stands (build h m p n) i x → Write h x
+pub build-needed : (h : History) (L : Laws h) (m : ℕ) (p : ℕ → ℕ) (n i x : ℕ) → Stands (build h m p n) i x → Write h x
     → (h .end x < h .len) ⊎ ((r : ℕ) × Read h m r × (p r ≡ x))
-build-needed h m p n i x s w = let t = build-only h m p n i x s in group-needed h m p (t .1) (t .0) x (t .2) w
+build-needed h L m p n i x s w = let t = build-only h m p n i x s in group-needed h L m p (t .1) (t .0) x (t .2) w

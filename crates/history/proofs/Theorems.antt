@@ -51,7 +51,7 @@ module _ (log : List ℕ) (formed : T (wellFormed log)) where
   pub swept-ordered : {F : ℕ} {fl : ℕ → ℕ} {w : ℕ} → Swept log F fl w → (l : List ℕ) × Orders log l
   swept-ordered s =
       let p = swept-placed s formed in
-      (_, ordered (historyOf log) L (length log) (omega arith) (p .0) (p .1))
+      (_, ordered (historyOf log) L (length log) (p .0) (p .1))
 
   -- An order gives each of its operations an instant within its span, in that order;
   pub has-instants : (l : List ℕ) → Orders log l → Instants (historyOf log) l (instantOf l)

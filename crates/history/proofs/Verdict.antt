@@ -34,7 +34,7 @@ module _ (h : History) (L : Laws h) where
   -- Up to the first read without a place there is an order.
   pub before-missing : (m : ℕ) → m ≤ missing h → Linearization h m (build h m (place h) (h .len))
   unfolding missing
-  before-missing m a = ordered h L m (omega (arith, first-le (fails h) 0 (h .len))) (place h) (sound h L m (found m a))
+  before-missing m a = ordered h L m (place h) (sound h L m (found m a))
 
   missing-le : missing h ≤ h .len
   unfolding missing

@@ -1,36 +1,46 @@
--- Keys as the code has them, and what they decode to.
-use Prim.Native.Nat.{ℕ, suc, _≤_, _<_, _+_, _-_, _*_, _%_}
+-- Keys as the code has them, what they decode to, and where they go.
+use Prim.Native.Nat.{ℕ, suc, _≤_, _<_, _+_, _*_, _/_, _%_}
 use native.Mathlib.Omega.{arith}
-use native.Mathlib.Decide.{decLt}
-use mathlib.Core.Path.{_≡_, refl, ap}
-use mathlib.Core.Logic.{_⊎_, inl, inr}
+use mathlib.Core.Path.{_≡_, ap}
+use mathlib.Core.Logic.{_⊎_, inl, inr, _≢_}
 use lib.Dec.{eqb}
 use borrow.Author.Tests.{ne-eqb}
-use Rattle.words.proofs.Laws.Choice.{pick-T}
+use Rattle.words.specs.Choice.{pick}
 use Rattle.history.specs.History.{History}
 use Rattle.history.specs.Sweep.{place}
-use Rattle.history.proofs.Built.{pos, off, key, lex′}
-use Rattle.judge.specs.Keys.{decode}
+use Rattle.history.proofs.Built.{key, key-write, key-read, lex, lex′}
+use Rattle.judge.specs.Keys.{limitOf, decode}
+use Rattle.judge.proofs.Sorted.{Sides}
 
--- the key of an operation: as the theory's, to the base 8192
+-- the key that the code gives an operation
 unfoldable pub codeKey : History → ℕ → ℕ
-codeKey h x = pos h (place h) x * 8192 + (off h x - 1)
+codeKey h x = pick (eqb (h .kind x) 1) (x * 8192) (place h x * 8192 + x)
 
 pub codeKey-write : (h : History) (x : ℕ) → h .kind x ≡ 1 → codeKey h x ≡ x * 8192
-unfolding codeKey pos off
-codeKey-write h x e = rw e (omega arith)
+unfolding codeKey
+codeKey-write h x e = rw e
 
 pub codeKey-read : (h : History) (x : ℕ) → h .kind x ≡ 3 → codeKey h x ≡ place h x * 8192 + x
-unfolding codeKey pos off
-codeKey-read h x e = rw e (omega arith)
+unfolding codeKey
+codeKey-read h x e = rw e
+
+-- The parts of a key.
+no-rest : (q : ℕ) → q * 8192 % 8192 ≡ 0
+no-rest q = omega arith
+
+rest-of : (q x : ℕ) → x < 8192 → (q * 8192 + x) % 8192 ≡ x
+rest-of q x a = omega arith
+
+place-of : (q x : ℕ) → x < 8192 → (q * 8192 + x) / 8192 ≡ q
+place-of q x a = omega arith
 
 decode-write : (x : ℕ) → decode (x * 8192) ≡ x
 unfolding decode
-decode-write x = let e : x * 8192 % 8192 ≡ 0 = omega arith in rw e (omega arith)
+decode-write x = rw (no-rest x) (omega arith)
 
 decode-read : (q x : ℕ) → 0 < x → x < 8192 → decode (q * 8192 + x) ≡ x
 unfolding decode
-decode-read q x a b = let e : (q * 8192 + x) % 8192 ≡ x = omega arith in rw (e, ne-eqb x 0 (omega arith))
+decode-read q x a b = rw (rest-of q x b, ne-eqb x 0 (omega arith))
 
 -- A write or a read.
 abbrev pub Op : History → ℕ → Type 0
@@ -43,40 +53,43 @@ decode-codeKey h x o a = go (o .1)
     go (inl e) = rw (codeKey-write h x e) (decode-write x)
     go (inr e) = rw (codeKey-read h x e) (decode-read (place h x) x (o .0) a)
 
--- The other way about: a smaller key has a smaller place, or the same place and a smaller rest.
-unlex : (N q q′ x x′ : ℕ) → q * N + x < q′ * N + x′ → x′ < N → (q < q′) ⊎ ((q ≡ q′) × (x < x′))
-unlex N q q′ x x′ a b = elim (decLt q q′) [
-  | yes c ↦ inl c
-  | no c ↦ elim (decLt q′ q) [
-    | yes d ↦ absurd (omega (arith, lex′ N q′ q x′ x d b))
-    | no d ↦ let e : q ≡ q′ = omega arith in inr (e, omega (arith, ap (_* N) e))
-  ]
-]
+-- the listing's key of the operation that a key of the code stands for
+unfoldable pub rank : History → ℕ → ℕ
+rank h x = key h (place h) (decode x)
 
-off-is : (h : History) (x : ℕ) → (off h x ≡ 0) ⊎ (off h x ≡ suc x)
-unfolding off
-off-is h x = pick-T (λ z. (z ≡ 0) ⊎ (z ≡ suc x)) (eqb (h .kind x) 1) (λ _. inl refl) (λ _. inr refl)
+pub rank-codeKey : (h : History) (x : ℕ) → Op h x → x < 8192 → rank h (codeKey h x) ≡ key h (place h) x
+unfolding rank
+rank-codeKey h x o a = ap (key h (place h)) (decode-codeKey h x o a)
 
-pub key→codeKey : (h : History) (x y : ℕ) → 0 < y → x < h .len → y < h .len → h .len ≤ 8191 → key h (place h) x < key h (place h) y → codeKey h x < codeKey h y
-unfolding codeKey key
-key→codeKey h x y r a b c k = go (off-is h x) (off-is h y)
+-- The limit of x tells on which side of x an operation y goes that ended before it.
+pub side : (h : History) (x y : ℕ) → Op h x → Op h y → x < 8192 → y < 8192 → h .end y < h .end x → h .end x ≤ h .len → (h .kind x ≡ 3 → h .end x < h .len)
+    → Sides (rank h) (codeKey h x) (codeKey h y)
+unfolding limitOf
+side h x y o u a b c d done = rw (rank-codeKey h x o a, rank-codeKey h y u b) (go (o .1) (u .1))
   where
-    go : (off h x ≡ 0) ⊎ (off h x ≡ suc x) → (off h y ≡ 0) ⊎ (off h y ≡ suc y) → pos h (place h) x * 8192 + (off h x - 1) < pos h (place h) y * 8192 + (off h y - 1)
-    go s t = elim (unlex (suc (h .len)) (pos h (place h) x) (pos h (place h) y) (off h x) (off h y) k (small t)) [
-      | inl d ↦ lex′ 8192 (pos h (place h) x) (pos h (place h) y) (off h x - 1) (off h y - 1) d (low s)
-      | inr d ↦ rest s t (d .0) (d .1)
-    ]
-      where
-        small : (off h y ≡ 0) ⊎ (off h y ≡ suc y) → off h y < suc (h .len)
-        small (inl e) = omega arith
-        small (inr e) = omega arith
+    other : x ≢ y
+    other e = omega (arith, ap (h .end) e)
 
-        low : (off h x ≡ 0) ⊎ (off h x ≡ suc x) → off h x - 1 < 8192
-        low (inl e) = omega arith
-        low (inr e) = omega arith
-
-        rest : (off h x ≡ 0) ⊎ (off h x ≡ suc x) → (off h y ≡ 0) ⊎ (off h y ≡ suc y) → pos h (place h) x ≡ pos h (place h) y → off h x < off h y
-            → pos h (place h) x * 8192 + (off h x - 1) < pos h (place h) y * 8192 + (off h y - 1)
-        rest s (inl f) p q = absurd (omega arith)
-        rest (inl e) (inr f) p q = omega arith
-        rest (inr e) (inr f) p q = omega arith
+    go : (h .kind x ≡ 1) ⊎ (h .kind x ≡ 3) → (h .kind y ≡ 1) ⊎ (h .kind y ≡ 3)
+        → (codeKey h y ≤ limitOf (codeKey h x) → key h (place h) y < key h (place h) x)
+        × (limitOf (codeKey h x) < codeKey h y → key h (place h) x < key h (place h) y)
+    go (inl e) (inl f) =
+        rw (codeKey-write h x e, codeKey-write h y f, no-rest x, key-write h (place h) x e, key-write h (place h) y f) (
+          λ t. omega (arith, lex′ (suc (h .len)) y x 0 0 (omega (arith, other)) (omega arith)),
+          λ t. omega (arith, lex′ (suc (h .len)) x y 0 0 (omega arith) (omega arith)),
+        )
+    go (inl e) (inr f) =
+        rw (codeKey-write h x e, codeKey-read h y f, no-rest x, key-write h (place h) x e, key-read h (place h) y f) (
+          λ t. omega (arith, lex′ (suc (h .len)) (place h y) x (suc (h .end y)) 0 (omega arith) (omega arith)),
+          λ t. omega (arith, lex (suc (h .len)) x (place h y) 0 (suc (h .end y)) (omega arith) (omega arith)),
+        )
+    go (inr e) (inl f) =
+        rw (codeKey-read h x e, codeKey-write h y f, rest-of (place h x) x a, place-of (place h x) x a, ne-eqb x 0 (omega (arith, o .0)), key-read h (place h) x e, key-write h (place h) y f) (
+          λ t. omega (arith, lex (suc (h .len)) y (place h x) 0 (suc (h .end x)) (omega arith) (omega arith)),
+          λ t. omega (arith, lex′ (suc (h .len)) (place h x) y (suc (h .end x)) 0 (omega arith) (omega (arith, done e))),
+        )
+    go (inr e) (inr f) =
+        rw (codeKey-read h x e, codeKey-read h y f, rest-of (place h x) x a, place-of (place h x) x a, ne-eqb x 0 (omega (arith, o .0)), key-read h (place h) x e, key-read h (place h) y f) (
+          λ t. lex (suc (h .len)) (place h y) (place h x) (suc (h .end y)) (suc (h .end x)) (omega arith) (omega arith),
+          λ t. lex′ (suc (h .len)) (place h x) (place h y) (suc (h .end x)) (suc (h .end y)) (omega arith) (omega (arith, done e)),
+        )

@@ -2,7 +2,7 @@
 use Prim.Native.Nat.{ℕ, _≤_, _<_, _+_}
 use native.Mathlib.Omega.{arith}
 use native.Mathlib.Decide.{decLt}
-use mathlib.Core.Path.{_≡_, refl, _∙_, sym, ap}
+use mathlib.Core.Path.{_≡_, refl, _∙_, sym}
 use mathlib.Core.Bool.{not}
 use mathlib.Core.Logic.{_⊎_, inl, inr, _≢_}
 use mathlib.Core.List.{List, []}
@@ -13,17 +13,16 @@ use Rattle.judge.proofs.FoldLaws.{rows-ind}
 use Rattle.history.specs.History.{eventAt, endAt, historyOf}
 use Rattle.history.proofs.Placement.{Laws}
 use Rattle.history.specs.Linearization.{Stands}
-use Rattle.history.proofs.Built.{only}
 use Rattle.history.specs.Rows.{kindAt, processorAt, beginsAt, begins, processorOf}
 use Rattle.history.specs.WellFormed.{openAt, wellFormed}
 use Rattle.history.proofs.Operations.{begin-is}
 use Rattle.history.proofs.WellFormed.{kind-is, laws}
 use Rattle.judge.specs.Sweeping.{rowPlace, sweepTo}
-use Rattle.judge.specs.Keys.{inserted, keyOf, addKey, keysTo, decode}
+use Rattle.judge.specs.Keys.{inserted, keyOf, addKey, keysTo}
 use Rattle.judge.proofs.Steps.{keys-one, keys-suc}
 use Rattle.judge.proofs.Linked.{Linked, linked, R, kind-of-begin, kind-of-end, beg-is, q-write, q-read}
-use Rattle.judge.proofs.Sorted.{Sorted, inserted-sorted, inserted-new, inserted-has, inserted-only}
-use Rattle.judge.proofs.KeyCode.{codeKey, codeKey-write, codeKey-read, decode-codeKey, Op}
+use Rattle.judge.proofs.Sorted.{Sorted, Sides, inserted-sorted, inserted-new, inserted-has, inserted-only}
+use Rattle.judge.proofs.KeyCode.{codeKey, codeKey-write, codeKey-read, rank, side, Op}
 
 -- An operation that ended before row k.
 pub record Ended (log : List ℕ) (k b : ℕ) : Type 0 where
@@ -31,7 +30,7 @@ pub record Ended (log : List ℕ) (k b : ℕ) : Type 0 where
   pub done : endAt log b < k
 
 pub record Keyed (log : List ℕ) (k : ℕ) (l : List ℕ) : Type 0 where
-  pub sorted : Sorted l
+  pub sorted : Sorted (rank (historyOf log)) l
   pub only : (i x : ℕ) → Stands l i x → (b : ℕ) × Ended log k b × (x ≡ codeKey (historyOf log) b)
   pub has : (b : ℕ) → Ended log k b → (i : ℕ) × Stands l i (codeKey (historyOf log) b)
 
@@ -49,6 +48,17 @@ module _ (log : List ℕ) (w : T (wellFormed log)) (few : length log ≤ 4096) w
     | inl e ↦ let d = L .write-done b e (o .0) a in (inl (d .0), d .1)
     | inr e ↦ let d = L .read-done b e a in (inr (d .0), d .1)
   ]
+
+  -- Where an operation x goes, ended or the unended write, among those that ended before.
+  pub sides : {k : ℕ} (l : List ℕ) (x : ℕ) → Op (historyOf log) x → k ≤ endAt log x → (eventAt log x ≡ 3 → endAt log x < length log) → Keyed log k l
+      → (i : ℕ) → i < length l → Sides (rank (historyOf log)) (codeKey (historyOf log) x) (getD l i 0)
+  sides l x o a r K i c =
+      let t = K .only i (getD l i 0) (record { within = c; there = refl }) in
+      let y = t .0 in
+      let p = op-in x o in
+      let q = op-in y (t .1 .op) in
+      let d : endAt log y < endAt log x = omega (arith, t .1 .done) in
+      rw (t .2) (side (historyOf log) x y o (t .1 .op) (omega arith) (omega arith) d (p .1) r)
 
   module _ (k : ℕ) (a : 0 < k) (c : k < length log) where
     abbrev g : ℕ
@@ -103,7 +113,7 @@ module _ (log : List ℕ) (w : T (wellFormed log)) (few : length log ≤ 4096) w
     step-end t l K =
         let o = ends t in
         record {
-          sorted = inserted-sorted (codeKey (historyOf log) g) l (K .sorted) (λ i x e. new o (K .only i (getD l i 0) (record { within = x; there = refl })) e);
+          sorted = inserted-sorted (codeKey (historyOf log) g) l (rank (historyOf log)) (K .sorted) (sides l g (o .0) (omega (arith, o .1)) (λ _. omega (arith, o .1)) K);
           only = λ i x s. elim (inserted-only (codeKey (historyOf log) g) l i x s) [
             | inl e ↦ (g, record { op = o .0; done = omega (arith, o .1) }, e)
             | inr s′ ↦ let u = K .only (s′ .0) x (s′ .1) in (u .0, record { op = u .1 .op; done = omega (arith, u .1 .done) }, u .2)
@@ -115,13 +125,6 @@ module _ (log : List ℕ) (w : T (wellFormed log)) (few : length log ≤ 4096) w
                 rw (← z) (inserted-new (codeKey (historyOf log) g) l)
           ];
         }
-      where
-        new : {x : ℕ} → Op (historyOf log) g × (endAt log g ≡ k) → (b : ℕ) × Ended log k b × (x ≡ codeKey (historyOf log) b) → x ≢ codeKey (historyOf log) g
-        new {x} o u e =
-            let p : u .0 ≡ g =
-            sym (decode-codeKey (historyOf log) (u .0) (u .1 .op) (omega (arith, op-in (u .0) (u .1 .op))))
-            ∙ ap decode (sym (u .2) ∙ e) ∙ decode-codeKey (historyOf log) g (o .0) (omega (arith, op-in g (o .0))) in
-            omega (arith, u .1 .done, ap (endAt log) p, o .1)
 
     step : (l : List ℕ) → Keyed log k l
         → Keyed log (k + 1) (addKey (getD log k 0) (getD (sweepTo log k .begins) (processorOf (getD log k 0)) 0) (rowPlace log (sweepTo log k) k) l)

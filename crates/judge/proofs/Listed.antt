@@ -1,9 +1,9 @@
 -- The decoded keys are the listing.
-use Prim.Native.Nat.{ℕ, suc, zero, _≤_, _<_, max}
+use Prim.Native.Nat.{ℕ, suc, zero, _≤_, _<_, _*_, max}
 use native.Mathlib.Omega.{arith}
 use native.Mathlib.Decide.{ℕ-discrete, decLt}
 use mathlib.Core.Path.{_≡_, refl, _∙_, sym, ap}
-use mathlib.Core.Logic.{_⊎_, inl, inr, _≢_}
+use mathlib.Core.Logic.{_⊎_, inl, inr}
 use mathlib.Core.List.{List, map}
 use lib.Dec.{T, eqb, eqb→eq}
 use lib.ListN.{length, getD, length-map, List·getD-map}
@@ -16,7 +16,7 @@ use Rattle.history.proofs.Floors.{floor-suc}
 use Rattle.history.proofs.Least.{sound, floor-least, floor-read}
 use Rattle.history.proofs.Rising.{Rising}
 use Rattle.history.specs.Listing.{build, listing}
-use Rattle.history.proofs.Built.{behind-has, only, has-read, has-write, key-by, build-needed}
+use Rattle.history.proofs.Built.{key, key-bound, behind-has, only, has-read, has-write, build-rising, build-needed}
 use Rattle.history.proofs.Verdict.{found}
 use Rattle.history.specs.Rows.{kindAt, processorAt, begins}
 use Rattle.history.specs.WellFormed.{openAt, wellFormed}
@@ -30,8 +30,8 @@ use Rattle.judge.proofs.Steps.{opens-at, some}
 use Rattle.judge.proofs.Linked.{linked}
 use Rattle.judge.proofs.Room.{unended-idle, unended-other, unended-some, keys-of}
 use Rattle.judge.proofs.Sorted.{Sorted, inserted-sorted, inserted-new, inserted-has, inserted-only}
-use Rattle.judge.proofs.KeyCode.{codeKey, codeKey-write, codeKey-read, decode-codeKey, key→codeKey, Op}
-use Rattle.judge.proofs.Keyed.{Ended, Keyed, op-in, keyed}
+use Rattle.judge.proofs.KeyCode.{codeKey, codeKey-write, decode-codeKey, rank, rank-codeKey, Op}
+use Rattle.judge.proofs.Keyed.{Ended, Keyed, op-in, sides, keyed}
 
 module _ (log : List ℕ) (w : T (wellFormed log)) (few : length log ≤ 4096) (ok : length log ≤ missing (historyOf log)) where
   L : Laws (historyOf log)
@@ -137,7 +137,7 @@ module _ (log : List ℕ) (w : T (wellFormed log)) (few : length log ≤ 4096) (
   Listed b = Ended log (length log) b ⊎ ((b ≡ u) × (0 < u) × (floor (historyOf log) (length log) ≡ u))
 
   record Whole (l : List ℕ) : Type 0 where
-    pub sorted : Sorted l
+    pub sorted : Sorted (rank (historyOf log)) l
     pub only : (i x : ℕ) → Stands l i x → (b : ℕ) × Listed b × (x ≡ codeKey (historyOf log) b)
     pub has : (b : ℕ) → Listed b → (i : ℕ) × Stands l i (codeKey (historyOf log) b)
 
@@ -156,7 +156,8 @@ module _ (log : List ℕ) (w : T (wellFormed log)) (few : length log ≤ 4096) (
 
   whole-some : (a : 0 < u) → floor (historyOf log) (length log) ≡ u → Whole (inserted (codeKey (historyOf log) u) (keysTo log (length log)))
   whole-some a e = record {
-    sorted = inserted-sorted _ _ (K .sorted) (λ i x q. new (K .only i _ (record { within = x; there = refl })) q);
+    sorted = inserted-sorted _ _ (rank (historyOf log)) (K .sorted)
+        (sides log w few (keysTo log (length log)) u (u-op a) (omega (arith, u-write a .1)) (λ k. absurd (omega (arith, u-write a .0))) K);
     only = λ i x s. elim (inserted-only _ _ i x s) [
       | inl q ↦ (u, inr (refl, a, e), q)
       | inr s′ ↦ let t = K .only (s′ .0) x (s′ .1) in (t .0, inl (t .1), t .2)
@@ -166,13 +167,6 @@ module _ (log : List ℕ) (w : T (wellFormed log)) (few : length log ≤ 4096) (
       | inr t ↦ rw (t .0) (inserted-new (codeKey (historyOf log) u) (keysTo log (length log)))
     ];
   }
-    where
-      new : {x : ℕ} → (b : ℕ) × Ended log (length log) b × (x ≡ codeKey (historyOf log) b) → x ≢ codeKey (historyOf log) u
-      new {x} v q =
-          let p : v .0 ≡ u =
-          sym (decode-codeKey (historyOf log) (v .0) (v .1 .op) (omega (arith, op-in log w few (v .0) (v .1 .op))))
-          ∙ ap decode (sym (v .2) ∙ q) ∙ decode-codeKey (historyOf log) u (u-op a) (omega (arith, op-in log w few u (u-op a))) in
-          omega (arith, v .1 .done, ap (endAt log) p, u-write a .1)
 
   keys-are : keysOf log ≡ addUnended u (floor (historyOf log) (length log)) (keysTo log (length log))
   keys-are = keys-of log w ∙ rw (begins-is, top-is)
@@ -220,11 +214,6 @@ module _ (log : List ℕ) (w : T (wellFormed log)) (few : length log ≤ 4096) (
         },
       )
 
-  -- Keys are bounded.
-  codeKey-bound : (x : ℕ) → Write (historyOf log) x ⊎ Read (historyOf log) (length log) x → codeKey (historyOf log) x < 67108864
-  codeKey-bound x (inl y) = omega (arith, codeKey-write (historyOf log) x (y .is), L .write x (y .is))
-  codeKey-bound x (inr y) = omega (arith, codeKey-read (historyOf log) x (y .is), P .early x y, y .ended, y .under)
-
   read-pos : (x : ℕ) → eventAt log x ≡ 3 → 0 < x
   read-pos zero e = absurd (omega (arith, L .start))
   read-pos (suc x) e = omega arith
@@ -241,41 +230,36 @@ module _ (log : List ℕ) (w : T (wellFormed log)) (few : length log ≤ 4096) (
       read-done (inl s) e = s .done
       read-done (inr s) e = absurd (omega (arith, ap (eventAt log) (s .0), u-write (s .1) .0))
 
-  out-rising : Rising (codeKey (historyOf log)) 0 out 67108864
+  -- The key of the entry at place i.
+  rank-at : (i x : ℕ) → Stands out i x → rank (historyOf log) (getD (keysOf log) i 0) ≡ key (historyOf log) (place (historyOf log)) x
+  rank-at i x s =
+      let t = entry i x s in
+      let o = listed-op x (t .0) in
+      rw (t .1) (rank-codeKey (historyOf log) x o (omega (arith, op-in log w few x o)))
+
+  out-rising : Rising (key (historyOf log) (place (historyOf log))) 0 out (length log * suc (length log))
   out-rising =
-      rising-of (codeKey (historyOf log)) out 0 67108864 (omega arith)
-      (λ i x s. (omega arith, codeKey-bound x (listed-cases x (entry i x s .0))))
+      rising-of (key (historyOf log) (place (historyOf log))) out 0 (length log * suc (length log)) (omega arith)
+      (λ i x s. (omega arith, key-bound (historyOf log) L (length log) (place (historyOf log)) P x (listed-cases x (entry i x s .0))))
       (λ i j x y s t a. omega (
         arith,
-        entry i x s .1,
-        entry j y t .1,
+        rank-at i x s,
+        rank-at j y t,
         whole .sorted i j a (omega (arith, t .within, length-map (keysOf log) decode)),
       ))
 
   build-only : (i x : ℕ) → Stands (build (historyOf log) (length log) (place (historyOf log)) (length log)) i x → Write (historyOf log) x ⊎ Read (historyOf log) (length log) x
-  build-only = only (historyOf log) L (length log) (omega arith) (place (historyOf log)) P
-
-  op-range : (x : ℕ) → Write (historyOf log) x ⊎ Read (historyOf log) (length log) x → (0 < x) × (x < length log)
-  op-range x (inl y) = (y .real, L .write x (y .is))
-  op-range x (inr y) = (read-pos x (y .is), y .under)
-
-  built-rising : Rising (codeKey (historyOf log)) 0 (build (historyOf log) (length log) (place (historyOf log)) (length log)) 67108864
-  built-rising =
-      rising-of (codeKey (historyOf log)) _ 0 67108864 (omega arith)
-      (λ i x s. (omega arith, codeKey-bound x (build-only i x s)))
-      (λ i j x y s t a. let p = op-range x (build-only i x s) in
-      let q = op-range y (build-only j y t) in
-      key→codeKey (historyOf log) x y (q .0) (p .1) (q .1) (omega arith) (key-by (historyOf log) L (length log) (omega arith) (place (historyOf log)) P i j x y s t a))
+  build-only = only (historyOf log) L (length log) (place (historyOf log)) P
 
   to-build : (x : ℕ) → Listed x → (j : ℕ) × Stands (build (historyOf log) (length log) (place (historyOf log)) (length log)) j x
   to-build x (inl e) = elim (listed-cases x (inl e)) [
-    | inl y ↦ has-write (historyOf log) L (length log) (omega arith) (place (historyOf log)) P x y (inl (e .done))
-    | inr y ↦ has-read (historyOf log) L (length log) (omega arith) (place (historyOf log)) P x y
+    | inl y ↦ has-write (historyOf log) L (length log) (place (historyOf log)) P x y (inl (e .done))
+    | inr y ↦ has-read (historyOf log) L (length log) (place (historyOf log)) P x y
   ]
   to-build x (inr t) =
       let r = needed (t .1) (t .2) in
-      let b = behind-has (historyOf log) (place (historyOf log)) u (length log) (r .0) (r .1) (r .2) in
-      rw (t .0) (has-write (historyOf log) L (length log) (omega arith) (place (historyOf log)) P u (record { is = u-write (t .1) .0; real = t .1 }) (inr (omega (arith, b .1 .within))))
+      let b = behind-has (historyOf log) L (length log) (place (historyOf log)) u (length log) (r .0) (r .1) (r .2) (r .1 .ended) in
+      rw (t .0) (has-write (historyOf log) L (length log) (place (historyOf log)) P u (record { is = u-write (t .1) .0; real = t .1 }) (inr (omega (arith, b .1 .within))))
 
   from-build : (i x : ℕ) → Stands (build (historyOf log) (length log) (place (historyOf log)) (length log)) i x → Listed x
   from-build i x s = elim (build-only i x s) [
@@ -284,7 +268,7 @@ module _ (log : List ℕ) (w : T (wellFormed log)) (few : length log ≤ 4096) (
       | yes d ↦ inl (record { op = (y .real, inl (y .is)); done = d })
       | no d ↦ let e = u-is x y (omega arith) in
           let a : 0 < u = omega (arith, y .real) in
-          elim (build-needed (historyOf log) (length log) (place (historyOf log)) (length log) i x s y) [
+          elim (build-needed (historyOf log) L (length log) (place (historyOf log)) (length log) i x s y) [
             | inl c ↦ absurd (omega arith)
             | inr r ↦ inr (e, a, reached a (r .0) (r .1) (r .2 ∙ e))
           ]
@@ -294,5 +278,6 @@ module _ (log : List ℕ) (w : T (wellFormed log)) (few : length log ≤ 4096) (
   pub listed : map decode (keysOf log) ≡ listing log
   unfolding listing
   listed =
-      rising-same (codeKey (historyOf log)) out _ 0 67108864 out-rising built-rising
+      rising-same (key (historyOf log) (place (historyOf log))) out _ 0 (length log * suc (length log)) out-rising
+      (build-rising (historyOf log) L (length log) (place (historyOf log)) (length log))
       (λ i x s. to-build x (entry i x s .0)) (λ i x s. stand x (from-build i x s))

@@ -1,33 +1,33 @@
--- Insertion into a sorted list.
+-- Insertion into a list that is sorted by what its entries stand for.
 use Prim.Native.Nat.{ℕ, suc, zero, _≤_, _<_, _+_, _-_}
 use native.Mathlib.Omega.{arith}
 use native.Mathlib.Decide.{ℕ-discrete, decLt}
 use mathlib.Core.Path.{_≡_, refl, _∙_, sym, ap}
-use mathlib.Core.Logic.{_⊎_, inl, inr, _≢_}
+use mathlib.Core.Logic.{_⊎_, inl, inr}
 use mathlib.Core.List.{List, _∷_, _++_}
 use lib.Dec.{leb, leb→le, nleb→lt}
 use lib.ListN.{length, getD, take, drop, List·getD-append}
 use lib.Seq.{length-take-le, getD-take, getD-drop, getD-at, getD-append-add}
 use Rattle.words.proofs.Laws.Choice.{pick-T}
 use Rattle.history.specs.Linearization.{Stands}
-use Rattle.judge.specs.Keys.{slot, putAt, inserted}
+use Rattle.judge.specs.Keys.{slot, putAt, limitOf, inserted}
 use Rattle.judge.proofs.Places.{slot-le, length-inserted}
 
-slot-above : (key : ℕ) (l : List ℕ) (n t : ℕ) → slot key l n ≤ t → t < n → key < getD l t 0
+slot-above : (limit : ℕ) (l : List ℕ) (n t : ℕ) → slot limit l n ≤ t → t < n → limit < getD l t 0
 unfolding slot
-slot-above key l zero t = λ a b. absurd (omega arith)
-slot-above key l (suc i) t =
-    pick-T (λ z. z ≤ t → t < suc i → key < getD l t 0) (leb (getD l i 0) key)
+slot-above limit l zero t = λ a b. absurd (omega arith)
+slot-above limit l (suc i) t =
+    pick-T (λ z. z ≤ t → t < suc i → limit < getD l t 0) (leb (getD l i 0) limit)
     (λ _ a b. absurd (omega arith))
-    (λ n a b. elim (ℕ-discrete t i) [ yes e ↦ rw e (nleb→lt _ _ n) | no m ↦ slot-above key l i t a (omega arith) ])
+    (λ n a b. elim (ℕ-discrete t i) [ yes e ↦ rw e (nleb→lt _ _ n) | no m ↦ slot-above limit l i t a (omega arith) ])
 
-slot-below : (key : ℕ) (l : List ℕ) (n : ℕ) → 0 < slot key l n → getD l (slot key l n - 1) 0 ≤ key
+slot-below : (limit : ℕ) (l : List ℕ) (n : ℕ) → 0 < slot limit l n → getD l (slot limit l n - 1) 0 ≤ limit
 unfolding slot
-slot-below key l zero = λ a. absurd (omega arith)
-slot-below key l (suc i) =
-    pick-T (λ z. 0 < z → getD l (z - 1) 0 ≤ key) (leb (getD l i 0) key)
+slot-below limit l zero = λ a. absurd (omega arith)
+slot-below limit l (suc i) =
+    pick-T (λ z. 0 < z → getD l (z - 1) 0 ≤ limit) (leb (getD l i 0) limit)
     (λ t a. let e : suc i - 1 ≡ i = omega arith in rw e (leb→le _ _ t))
-    (λ _ a. slot-below key l i a)
+    (λ _ a. slot-below limit l i a)
 
 module _ (j key : ℕ) (l : List ℕ) (b : j ≤ length l) where
   front : length (take j l) ≡ j
@@ -49,52 +49,63 @@ module _ (j key : ℕ) (l : List ℕ) (b : j ≤ length l) where
       ap (λ (k : ℕ). getD (take j l ++ (key ∷ drop j l)) k 0) e ∙ getD-append-add (take j l) (key ∷ drop j l) (suc (i - suc j)) 0
       ∙ getD-drop j l (i - suc j) 0 ∙ ap (λ (k : ℕ). getD l k 0) f
 
-abbrev pub Sorted : List ℕ → Type 0
-Sorted l = (a b : ℕ) → a < b → b < length l → getD l a 0 < getD l b 0
+-- Sorted by f.
+abbrev pub Sorted : (ℕ → ℕ) → List ℕ → Type 0
+Sorted f l = (a b : ℕ) → a < b → b < length l → f (getD l a 0) < f (getD l b 0)
+
+-- The limit of key tells on which side of it an entry x goes.
+abbrev pub Sides : (ℕ → ℕ) → ℕ → ℕ → Type 0
+Sides f key x = (x ≤ limitOf key → f x < f key) × (limitOf key < x → f key < f x)
 
 module _ (key : ℕ) (l : List ℕ) where
   j : ℕ
-  j = slot key l (length l)
+  j = slot (limitOf key) l (length l)
 
   j-le : j ≤ length l
   unfolding j
-  j-le = slot-le key l (length l)
+  j-le = slot-le (limitOf key) l (length l)
 
   is-put : inserted key l ≡ putAt j key l
   unfolding inserted j
   is-put = refl
 
-  over : (b : ℕ) → j ≤ b → b < length l → key < getD l b 0
+  over : (b : ℕ) → j ≤ b → b < length l → limitOf key < getD l b 0
   unfolding j
-  over b c d = slot-above key l (length l) b c d
+  over b c d = slot-above (limitOf key) l (length l) b c d
 
-  last : 0 < j → getD l (j - 1) 0 ≤ key
+  last : 0 < j → getD l (j - 1) 0 ≤ limitOf key
   unfolding j
-  last a = slot-below key l (length l) a
+  last a = slot-below (limitOf key) l (length l) a
 
-  under : Sorted l → ((i : ℕ) → i < length l → getD l i 0 ≢ key) → (a : ℕ) → a < j → getD l a 0 < key
-  under s new a c = elim (ℕ-discrete a (j - 1)) [
-    | yes q ↦ omega (arith, last (omega arith), ap (λ (k : ℕ). getD l k 0) q, new a (omega (arith, j-le)))
-    | no n ↦ omega (arith, last (omega arith), s a (j - 1) (omega arith) (omega (arith, j-le)))
-  ]
+  module _ (f : ℕ → ℕ) (s : Sorted f l) (sides : (i : ℕ) → i < length l → Sides f key (getD l i 0)) where
+    under : (a : ℕ) → a < j → f (getD l a 0) < f key
+    under a c =
+        let z = sides (j - 1) (omega (arith, j-le)) .0 (last (omega arith)) in
+        elim (ℕ-discrete a (j - 1)) [
+          | yes q ↦ rw q z
+          | no n ↦ omega (arith, s a (j - 1) (omega arith) (omega (arith, j-le)))
+        ]
 
-  pub inserted-sorted : Sorted l → ((i : ℕ) → i < length l → getD l i 0 ≢ key) → Sorted (inserted key l)
-  inserted-sorted s new a b c d =
-      rw is-put (go a b c (omega (arith, length-inserted key l)) (decLt b j) (decLt j b) (decLt a j) (decLt j a))
-    where
-      go : (a b : ℕ) → a < b → b < suc (length l) → Dec (b < j) → Dec (j < b) → Dec (a < j) → Dec (j < a) → getD (putAt j key l) a 0 < getD (putAt j key l) b 0
-      go a b c d (yes x) _ _ _ = rw (put-lo j key l j-le a (omega arith), put-lo j key l j-le b x) (s a b c (omega (arith, j-le)))
-      go a b c d (no x) (no y) (yes z) _ =
-          let e : b ≡ j = omega arith in
-          rw (e, put-lo j key l j-le a z, put-at j key l j-le) (under s new a z)
-      go a b c d (no x) (no y) (no z) _ = absurd (omega arith)
-      go a b c d (no x) (yes y) (yes z) _ =
-          rw (put-lo j key l j-le a z, put-hi j key l j-le b y) (omega (arith, under s new a z, over (b - 1) (omega arith) (omega arith)))
-      go a b c d (no x) (yes y) (no z) (yes u) =
-          rw (put-hi j key l j-le a u, put-hi j key l j-le b y) (s (a - 1) (b - 1) (omega arith) (omega arith))
-      go a b c d (no x) (yes y) (no z) (no u) =
-          let e : a ≡ j = omega arith in
-          rw (e, put-at j key l j-le, put-hi j key l j-le b y) (over (b - 1) (omega arith) (omega arith))
+    past : (b : ℕ) → j ≤ b → b < length l → f key < f (getD l b 0)
+    past b c d = sides b d .1 (over b c d)
+
+    pub inserted-sorted : Sorted f (inserted key l)
+    inserted-sorted a b c d =
+        rw is-put (go a b c (omega (arith, length-inserted key l)) (decLt b j) (decLt j b) (decLt a j) (decLt j a))
+      where
+        go : (a b : ℕ) → a < b → b < suc (length l) → Dec (b < j) → Dec (j < b) → Dec (a < j) → Dec (j < a) → f (getD (putAt j key l) a 0) < f (getD (putAt j key l) b 0)
+        go a b c d (yes x) _ _ _ = rw (put-lo j key l j-le a (omega arith), put-lo j key l j-le b x) (s a b c (omega (arith, j-le)))
+        go a b c d (no x) (no y) (yes z) _ =
+            let e : b ≡ j = omega arith in
+            rw (e, put-lo j key l j-le a z, put-at j key l j-le) (under a z)
+        go a b c d (no x) (no y) (no z) _ = absurd (omega arith)
+        go a b c d (no x) (yes y) (yes z) _ =
+            rw (put-lo j key l j-le a z, put-hi j key l j-le b y) (omega (arith, under a z, past (b - 1) (omega arith) (omega arith)))
+        go a b c d (no x) (yes y) (no z) (yes u) =
+            rw (put-hi j key l j-le a u, put-hi j key l j-le b y) (s (a - 1) (b - 1) (omega arith) (omega arith))
+        go a b c d (no x) (yes y) (no z) (no u) =
+            let e : a ≡ j = omega arith in
+            rw (e, put-at j key l j-le, put-hi j key l j-le b y) (past (b - 1) (omega arith) (omega arith))
 
   pub inserted-new : (i : ℕ) × Stands (inserted key l) i key
   inserted-new = (j, record { within = omega (arith, j-le, length-inserted key l); there = rw is-put (put-at j key l j-le) })

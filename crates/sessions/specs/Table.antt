@@ -39,7 +39,7 @@ R i = packRow (event 3 i 0)
 abbrev r : ℕ → ℕ → ℕ
 r i v = packRow (event 4 i v)
 
--- places for an order, more than any session needs
+-- places for an order, enough for every session
 abbrev places : List ℕ
 places = 77 ∷ 77 ∷ 77 ∷ 77 ∷ 77 ∷ []
 
@@ -173,6 +173,8 @@ table =
     ∷ judged (two (W 5 ∷ R 2 ∷ r 2 7 ∷ R 1 ∷ r 1 5 ∷ [])) places 0 (3 ∷ []) (2 ∷ 1 ∷ 4 ∷ 77 ∷ 77 ∷ [])
     -- "W 5, R 1, w, W 6, w, W 5, r 1 5, R 2, r 2 6: order 1 2 4 8."
     ∷ judged (two (W 5 ∷ R 1 ∷ w ∷ W 6 ∷ w ∷ W 5 ∷ r 1 5 ∷ R 2 ∷ r 2 6 ∷ [])) places 0 (4 ∷ []) (1 ∷ 2 ∷ 4 ∷ 8 ∷ 77 ∷ [])
+    -- "Reads behind one write shall go by end row and no longer by begin row." (document 02, card 6): behind the start, and behind a write
+    ∷ judged (two (R 1 ∷ R 2 ∷ r 2 7 ∷ r 1 7 ∷ W 5 ∷ R 1 ∷ R 2 ∷ r 2 5 ∷ r 1 5 ∷ [])) places 0 (5 ∷ []) (2 ∷ 1 ∷ 5 ∷ 7 ∷ 6 ∷ [])
     -- "Row 0 alone: empty order.", and the other refusals: no rows, two begins of one processor, a place short
     ∷ judged (two []) places 0 (0 ∷ []) places
     ∷ judged [] places 9 [] places

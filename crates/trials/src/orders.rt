@@ -87,6 +87,12 @@ fn try_unended_write() {
     try_rows(&read, 16);
 }
 
+// Reads behind the start, and behind a write, go by end row.
+fn try_ends() {
+    let rows = [ROW_0, R_1, R_2, E_2_7, E_1_7, W_5, R_1, R_2, E_2_5, E_1_5];
+    try_rows(&rows, 16);
+}
+
 pub(crate) fn try_all() {
     try_places();
     try_unended();
@@ -95,4 +101,5 @@ pub(crate) fn try_all() {
     try_earliest();
     try_rows_of_12();
     try_unended_write();
+    try_ends();
 }

@@ -1,0 +1,87 @@
+#!/usr/bin/env python3
+"""Every stored print, made anew by the outside model: of the programs, with what they are run on, and of the examples.
+
+    prints.py           writes those that have changed and names them
+    prints.py --check   names them only; the exit status is 1 if there are any
+
+A print is never taken from the program that it is held to.
+"""
+
+import sys
+from pathlib import Path
+
+sys.dont_write_bytecode = True
+
+from bench_inputs import EXAMPLE, bench_inputs
+from draw import picture
+from model import bench
+from soak import soak_lines
+from trials_expected import trials_lines
+from verdict_logs import STANDARD_INPUT, expected, verdict_logs
+
+ROOT = Path(__file__).resolve().parent.parent
+
+
+def judging():
+    """What verdict is run on: its files and, last, its standard input."""
+    logs = verdict_logs()
+    yield 'stdin', STANDARD_INPUT
+    yield 'args', lines_of([*logs, '-'])
+    yield 'stdout', lines_of([*(expected(name, log) for name, log in logs.items()), expected('-', STANDARD_INPUT)])
+    yield from (('data/' + name, log) for name, log in logs.items())
+
+
+def joining():
+    """What the bench is run on: its standard input and then its files."""
+    inputs = bench_inputs()
+    yield 'stdin', EXAMPLE
+    yield 'args', lines_of(['-', *inputs])
+    yield 'stdout', ''.join(map(bench, [EXAMPLE, *inputs.values()])).encode()
+    yield from (('data/' + name, text) for name, text in inputs.items())
+
+
+def examples():
+    """The print of each example's input, and the picture of one."""
+    for path in sorted((ROOT / 'examples').glob('*.txt')):
+        print_ = bench(path.read_bytes())
+        yield path.stem + '.out', print_.encode()
+        if path.stem == 'patroller':
+            yield path.stem + '.svg', picture(print_).encode()
+
+
+def lines_of(lines):
+    return ''.join(line + '\n' for line in lines).encode()
+
+
+# folder: the files in it that are made here
+FOLDERS = {
+    'crates/verdict': judging,
+    'crates/bench': joining,
+    'crates/trials': lambda: [('stdout', lines_of(trials_lines()))],
+    'crates/soak': lambda: [('stdout', lines_of(soak_lines()))],
+    'examples': examples,
+}
+
+
+def main(arguments):
+    """See the head of this file."""
+    if arguments not in ([], ['--check']):
+        sys.exit(__doc__)
+    changed = False
+    for folder, files in FOLDERS.items():
+        made = {ROOT / folder / name: data for name, data in files()}
+        strangers = set((ROOT / folder / 'data').glob('*')) - set(made)
+        for path in sorted(strangers):
+            changed = True
+            print('not made here:', path.relative_to(ROOT))
+        for path, data in made.items():
+            if not path.exists() or path.read_bytes() != data:
+                changed = True
+                print('changed:', path.relative_to(ROOT))
+                if not arguments:
+                    path.write_bytes(data)
+    sys.exit(1 if changed and arguments else 0)
+
+
+if __name__ == '__main__':
+    main(sys.argv[1:])
