@@ -1,6 +1,6 @@
 #!/usr/bin/env python3
 """Outside model of the arrow register and its judge, written from document 01 alone, and from
-document 02 for the requests that have landed (card 6).
+document 02 for the requests that have landed (card 6; card 4 changes nothing that is told here).
 
     model.py bench              text on standard input, the bench's print on standard output
     model.py verdict            one line for the log whose bytes are on standard input

@@ -8,7 +8,8 @@ use lib.Seq.{take-at}
 use Rattle.logbytes.specs.Bytes.{rowsOf, readInto}
 use Rattle.logbytes.proofs.Laws.{read-length, read-all}
 use Rattle.judge.specs.Answer.{numberOf}
-use Rattle.judge.proofs.Asked.{number-9}
+use Rattle.judge.proofs.Asked.{no9}
+use Rattle.judge.proofs.Meaning.{number-is}
 
 pub rows-length : (b : List ℕ) → length (rowsOf b) ≡ length b / 8
 unfolding rowsOf
@@ -20,4 +21,5 @@ rows-front b d r a = rw (r, read-all b d a) (take-at (rowsOf b) (drop (length b 
 
 -- more than 4,096 rows are 9
 pub too-long : (b : List ℕ) → 32768 < length b → length b % 8 ≡ 0 → numberOf (rowsOf b) ≡ 9
-too-long b a e = number-9 (rowsOf b) (λ s. omega (arith, rows-length b, s .few))
+unfolding numberOf
+too-long b a e = number-is (rowsOf b) _ (no9 (λ s. omega (arith, rows-length b, s .few)))

@@ -8,7 +8,7 @@ use lib.Dec.{T}
 use lib.ListN.{length, getD, set, replicate}
 use Rattle.history.specs.Rows.{processorOf, processorAt}
 use Rattle.history.specs.WellFormed.{headOk, fieldsOk, alternates, openAt, rowOk, all, wellFormed}
-use Rattle.judge.specs.Sweeping.{openAfter, opensTo}
+use Rattle.judge.specs.Sweeping.{processors, openAfter, opensTo}
 use Rattle.judge.proofs.Steps.{opens-suc, opens-one, opens-at, proc-small, all-one, all-suc, formed-row, formed-all, row-fields, row-turn, row-good}
 
 -- the rows before k are right, where there are n readers and the array bs
@@ -21,7 +21,7 @@ pub record Checked (log : List ℕ) (n k : ℕ) (bs : List ℕ) : Type 0 where
   pub begins : bs ≡ opensTo log k
 
 module _ (log : List ℕ) where
-  pub checked-start : 1 ≤ length log → headOk (getD log 0 0) ≡ true → Checked log (processorOf (getD log 0 0)) 1 (replicate 17 0)
+  pub checked-start : 1 ≤ length log → headOk (getD log 0 0) ≡ true → Checked log (processorOf (getD log 0 0)) 1 (replicate processors 0)
   unfolding processorAt
   checked-start a e = record {
     from = omega arith;
@@ -46,7 +46,7 @@ module _ (log : List ℕ) where
         right : fieldsOk (getD log k 0) (processorAt log 0) ≡ true
         right = rw (C .readers) at f
 
-        pub checked-in : p < 17
+        pub checked-in : p < processors
         checked-in = rw e (proc-small log (getD log k 0) (C .head) (rw right tt))
 
         open-is : getD bs p 0 ≡ openAt log (processorAt log k) k

@@ -13,3 +13,5 @@ pub mod Keyed
 pub mod Listed
 pub mod ByteLaws
 pub mod Meaning
+pub mod Said
+pub mod FrameLaws

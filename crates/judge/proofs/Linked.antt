@@ -24,14 +24,14 @@ use Rattle.history.specs.Rows.{kindAt, processorAt, valueAt, beginsAt, begins, 
 use Rattle.history.specs.WellFormed.{openAt, wellFormed}
 use Rattle.history.proofs.Operations.{RowOk, begin-is, open-suc, open-le}
 use Rattle.history.proofs.WellFormed.{begin→, row, kind-is, laws}
-use Rattle.judge.specs.Sweeping.{Sweep, openAfter, opensTo, rowPlace, placeRow, floorAfter, missingAfter, nextState, freshSweep, sweepTo}
+use Rattle.judge.specs.Sweeping.{processors, Sweep, openAfter, opensTo, rowPlace, placeRow, floorAfter, missingAfter, nextState, freshSweep, sweepTo}
 use Rattle.judge.proofs.Steps.{opens-suc, opens-one, opens-at, proc-in, some, sweep-one, sweep-suc}
 use Rattle.judge.proofs.Bounds.{missing-le, missing-hit, missing-new, place-le, floor-le}
 
 pub record Linked (log : List ℕ) (k : ℕ) (s : Sweep) : Type 0 where
   pub begins : s .begins ≡ opensTo log k
-  pub size : length (s .floors) ≡ 17
-  pub floors : (i : ℕ) → i < 17 → 0 < openAt log i k → getD (s .floors) i 0 ≡ floor (historyOf log) (openAt log i k)
+  pub size : length (s .floors) ≡ processors
+  pub floors : (i : ℕ) → i < processors → 0 < openAt log i k → getD (s .floors) i 0 ≡ floor (historyOf log) (openAt log i k)
   pub top : s .top ≡ floor (historyOf log) k
   pub least : (r : ℕ) → T (isRead (historyOf log) r) → endAt log r < k → endAt log r ≤ place (historyOf log) r → s .missing ≤ r
   pub failing : s .missing < length log → T (fails (historyOf log) (s .missing))
@@ -45,7 +45,7 @@ module _ (log : List ℕ) (w : T (wellFormed log)) where
     pub R : RowOk log k
     R = row log w k a b
 
-    pub small : processorAt log k < 17
+    pub small : processorAt log k < processors
     unfolding processorAt
     small = proc-in log w k a b
 
@@ -243,7 +243,7 @@ module _ (log : List ℕ) (w : T (wellFormed log)) where
   unfolding freshSweep openAt floor floors adds eventAt
   start = record {
     begins = sym (opens-one log);
-    size = length-replicate {A = ℕ} 17 0;
+    size = length-replicate {A = ℕ} processors 0;
     floors = λ i c p. absurd (omega arith);
     top = refl;
     least = λ r u c d. absurd (none r u c);

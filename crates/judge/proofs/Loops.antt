@@ -7,7 +7,7 @@ use lib.Dec.{T}
 use lib.ListN.{length, getD, set, replicate}
 use Rattle.history.specs.Rows.{processorOf}
 use Rattle.history.specs.WellFormed.{wellFormed}
-use Rattle.judge.specs.Sweeping.{Sweep, openAfter, placeRow, rowPlace, floorAfter, missingAfter, freshSweep, sweepTo}
+use Rattle.judge.specs.Sweeping.{processors, Sweep, openAfter, placeRow, rowPlace, floorAfter, missingAfter, freshSweep, sweepTo}
 use Rattle.judge.specs.Answer.{beginsTo}
 use Rattle.judge.specs.Keys.{addKey, addUnended, keysTo, keysOf}
 use Rattle.judge.proofs.Steps.{some, proc-in, sweep-one, begins-next, floors-next, top-next, missing-next, place-is, keys-suc}
@@ -22,7 +22,7 @@ pub record Sweeps (log : List ℕ) (k : ℕ) (bs fs : List ℕ) (t : ℕ) : Type
   pub top : t ≡ sweepTo log k .top
 
 module _ (log : List ℕ) (w : T (wellFormed log)) where
-  pub sweeps-start : Sweeps log 1 (replicate 17 0) (replicate 17 0) 0
+  pub sweeps-start : Sweeps log 1 (replicate processors 0) (replicate processors 0) 0
   unfolding freshSweep
   sweeps-start = record {
     from = omega arith;
@@ -35,7 +35,7 @@ module _ (log : List ℕ) (w : T (wellFormed log)) where
   module _ (k : ℕ) (bs fs : List ℕ) (t : ℕ) (S : Sweeps log k bs fs t) where
     module _ (inside : k < length log) where
       -- the row's processor p
-      pub processor-in : {p : ℕ} → p ≡ processorOf (getD log k 0) → p < 17
+      pub processor-in : {p : ℕ} → p ≡ processorOf (getD log k 0) → p < processors
       processor-in e = rw e (proc-in log w k (S .from) inside)
 
       pub begin-in : {p : ℕ} → p ≡ processorOf (getD log k 0) → getD bs p 0 ≤ k

@@ -17,7 +17,8 @@ use Rattle.history.specs.Rows.{processorAt, beginsAt, begins, kindOf, processor
 use Rattle.history.specs.WellFormed.{openAt, headOk, isReader, fieldsOk, alternates, rowOk, all, wellFormed}
 use Rattle.history.proofs.Operations.{all-at, fields→, begin-is}
 use Rattle.words.specs.Row.{zeroBits}
-use Rattle.judge.specs.Sweeping.{Sweep, openAfter, opensTo, rowPlace, placeRow, floorAfter, missingAfter, nextState, freshSweep, sweepTo}
+use Rattle.judge.specs.Fold.{upTo}
+use Rattle.judge.specs.Sweeping.{processors, Sweep, openAfter, opensTo, rowPlace, placeRow, floorAfter, missingAfter, nextState, freshSweep, sweepTo}
 use Rattle.judge.specs.Answer.{countAfter, beginsTo}
 use Rattle.judge.specs.Keys.{addKey, keysTo}
 
@@ -75,20 +76,20 @@ module _ (log : List ℕ) where
   unfolding keysTo
   keys-suc k a = upTo-suc _ _ k a
 
-  pub opens-one : opensTo log 1 ≡ replicate 17 0
+  pub opens-one : opensTo log 1 ≡ replicate processors 0
   unfolding opensTo
   opens-one = upTo-one _ _
 
-  pub length-opens : (k : ℕ) → 0 < k → length (opensTo log k) ≡ 17
+  pub length-opens : (k : ℕ) → 0 < k → length (opensTo log k) ≡ processors
   length-opens zero a = absurd (omega arith)
   length-opens (suc zero) a = rw opens-one
   length-opens (suc (suc k)) a = rw (← add-one (suc k), opens-suc (suc k) (omega arith), length-set) (length-opens (suc k) (omega arith))
 
   -- The array holds what the definition says of each processor.
-  pub opens-at : (i k : ℕ) → i < 17 → 0 < k → getD (opensTo log k) i 0 ≡ openAt log i k
+  pub opens-at : (i k : ℕ) → i < processors → 0 < k → getD (opensTo log k) i 0 ≡ openAt log i k
   unfolding openAt openAfter processorAt
   opens-at i zero a b = absurd (omega arith)
-  opens-at i (suc zero) a b = rw opens-one (getD-replicate 17 i 0 0 a)
+  opens-at i (suc zero) a b = rw opens-one (getD-replicate processors i 0 0 a)
   opens-at i (suc (suc k)) a b =
       rw (← add-one (suc k), opens-suc (suc k) (omega arith))
       (go (ℕ-discrete i (processorAt log (suc k))) (opens-at i (suc k) a (omega arith)))
@@ -108,7 +109,7 @@ module _ (log : List ℕ) where
           rw (p-is, ne-eqb (processorAt log (suc k)) i (λ e. n (sym e)), getD-set-other (opensTo log (suc k)) (processorAt log (suc k)) i _ 0 n) f
 
   -- A row's processor is in range.
-  pub proc-small : (y : ℕ) → T (headOk (getD log 0 0)) → T (fieldsOk y (processorAt log 0)) → processorOf y < 17
+  pub proc-small : (y : ℕ) → T (headOk (getD log 0 0)) → T (fieldsOk y (processorAt log 0)) → processorOf y < processors
   unfolding headOk processorAt
   proc-small y a b =
       let u : T (isReader (processorOf (getD log 0 0)) 16) = T-right (eqb (zeroBits (getD log 0 0)) 0) _ (T-right (eqb (kindOf (getD log 0 0)) 5) _ a) in
@@ -128,7 +129,7 @@ module _ (log : List ℕ) where
   unfolding wellFormed
   row-of w k a b = all-at (rowOk log) (length log) k (T-right (headOk (getD log 0 0)) _ (T-right (ltb 0 (length log)) _ w)) a b
 
-  pub proc-in : T (wellFormed log) → (k : ℕ) → 0 < k → k < length log → processorOf (getD log k 0) < 17
+  pub proc-in : T (wellFormed log) → (k : ℕ) → 0 < k → k < length log → processorOf (getD log k 0) < processors
   unfolding rowOk
   proc-in w k a b = proc-small (getD log k 0) (head-of w) (T-left (fieldsOk (getD log k 0) (processorAt log 0)) _ (row-of w k a b))
 
@@ -168,3 +169,10 @@ module _ (log : List ℕ) where
 pub count-le : (x n : ℕ) → countAfter x n ≤ n + 1
 unfolding countAfter
 count-le x n = pick-T (λ z. z ≤ n + 1) (begins x) (λ _. omega arith) (λ _. omega arith)
+
+-- no more begin rows than rows
+pub begins-few : (log : List ℕ) (k : ℕ) → beginsTo log k ≤ k
+unfolding beginsTo upTo
+begins-few log zero = omega arith
+begins-few log (suc zero) = omega arith
+begins-few log (suc (suc k)) = omega (arith, begins-few log (suc k), count-le (getD log (suc k) 0) (beginsTo log (suc k)))

@@ -63,6 +63,10 @@ cases log places refuse none order =
     (refuse 10))
     (refuse 9)
 
+-- what is settled before a place is written: the answer, of no operations yet
+unfoldable pub settledOf : List ℕ → ℕ → Answer
+settledOf log places = cases log places refused noOrder (λ _. accepted 0)
+
 unfoldable pub answerOf : List ℕ → ℕ → Answer
 answerOf log places = cases log places refused noOrder (λ l. accepted (length l))
 

@@ -3,3 +3,4 @@ pub mod Answer
 pub mod Meaning
 pub mod Sweeping
 pub mod Keys
+pub mod Frame

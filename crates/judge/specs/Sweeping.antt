@@ -10,6 +10,10 @@ use Rattle.history.specs.Sweep.{isSource}
 use Rattle.history.specs.History.{historyOf}
 use Rattle.history.specs.Rows.{begins, kindOf, processorOf, valueOf}
 
+-- the writer and up to 16 readers
+abbrev pub processors : ℕ
+processors = 17
+
 pub record Sweep : Type 0 where
   -- for each processor the begin row of its open operation, or 0, and the floor there
   pub begins : List ℕ
@@ -25,7 +29,7 @@ openAfter w k = pick (begins w) k 0
 
 -- for each processor the begin row of its open operation before row k, or 0
 unfoldable pub opensTo : List ℕ → ℕ → List ℕ
-opensTo log k = upTo (λ o j. set o (processorOf (getD log j 0)) (openAfter (getD log j 0) j)) (replicate 17 0) k
+opensTo log k = upTo (λ o j. set o (processorOf (getD log j 0)) (openAfter (getD log j 0) j)) (replicate processors 0) k
 
 -- what row k raises the floor to: the begin row b of a write that it ends, or the place of a read that it ends, with floor f
 unfoldable pub placeRow : List ℕ → ℕ → ℕ → ℕ → ℕ
@@ -54,7 +58,7 @@ nextState s w k q = record {
 }
 
 unfoldable pub freshSweep : ℕ → Sweep
-freshSweep n = record { begins = replicate 17 0; floors = replicate 17 0; top = 0; missing = n }
+freshSweep n = record { begins = replicate processors 0; floors = replicate processors 0; top = 0; missing = n }
 
 -- the sweep before row k
 unfoldable pub sweepTo : List ℕ → ℕ → Sweep

@@ -1,6 +1,7 @@
 // Question 10: are the rows well formed?
 use super::row::KIND;
 use super::row::PROCESSOR;
+use super::row::PROCESSORS;
 use super::row::ZERO_BITS;
 use super::row::is_begin;
 use super::row::open_after;
@@ -84,7 +85,7 @@ pub(crate) fn well_formed(rows: &[u64]) -> bool
         return false;
     }
     let n = head / PROCESSOR % 256;
-    let mut begins = [0usize; 17];
+    let mut begins = [0usize; PROCESSORS];
     let mut k = 1;
     while k < rows.len() {
         let row = rows[k];

@@ -10,6 +10,9 @@ pub(crate) const PROCESSOR: u64 = 0x10_0000_0000_0000;
 
 pub(crate) const ZERO_BITS: u64 = 0x1_0000_0000;
 
+// The writer and up to 16 readers.
+pub(crate) const PROCESSORS: usize = 17;
+
 // The processor of a row.
 pub(crate) fn processor(row: u64) -> usize
     ensures { λ r. ⌜ r ≡ processorOf row ⌝ }

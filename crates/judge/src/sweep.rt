@@ -1,5 +1,6 @@
 // Question 12: a sweep over the rows that gives each ended read the first row that it may stand behind.
 use super::row::KIND;
+use super::row::PROCESSORS;
 use super::row::is_begin;
 use super::row::open_after;
 use super::row::processor;
@@ -99,8 +100,8 @@ pub(crate) fn first_missing(rows: &[u64]) -> usize
     requires { ⌜ T (wellFormed (now rows)) ⌝ }
     ensures { λ r. ⌜ r ≡ missing (historyOf (now (rows .entry))) ⌝ }
 {
-    let mut begins = [0usize; 17];
-    let mut floors = [0usize; 17];
+    let mut begins = [0usize; PROCESSORS];
+    let mut floors = [0usize; PROCESSORS];
     let mut top = 0;
     let mut missing = rows.len();
     let mut k = 1;

@@ -6,8 +6,11 @@ use super::row::is_begin;
 use super::sweep::first_missing;
 ghost use mathlib.Core.Path.{_≡_};
 ghost use Prim.Native.Nat.{_<_, _≤_, _^_};
+ghost use lib.Dec.{ltb};
 ghost use lib.ListN.{length};
-ghost use Rattle.judge.specs.Answer.{rightLength, countAfter, beginsTo, answer, answerOf, orderOf, numberOf};
+ghost use Rattle.history.specs.Listing.{listing};
+ghost use Rattle.judge.specs.Answer.{rightLength, countAfter, beginsTo, answer, settledOf, answerOf, orderOf, numberOf};
+ghost use Rattle.judge.specs.Keys.{Put};
 ghost use Rattle.judge.specs.Meaning.{Means};
 
 // What the judge says of a log.
@@ -56,11 +59,21 @@ fn count_begins(rows: &[u64]) -> usize
     n
 }
 
-// The verdict, and the order in the lent places.
-pub fn judge(rows: &[u64], order: &mut [u64]) -> Verdict
-    ensures answer { λ r. ⌜ answer r ≡ answerOf (now (rows .entry)) (length (now (order .entry))) ⌝ }
-    ensures order { λ r. ⌜ now (order .exit) ≡ orderOf (now (rows .entry)) (now (order .entry)) ⌝ }
-    ensures meaning { λ r. ⌜ Means (now (rows .entry)) (now (order .entry)) (now (order .exit)) r ⌝ }
+// Whether there are fewer places than begin rows. As many places as rows are enough, and then nothing is counted.
+fn lacks_room(rows: &[u64], places: usize) -> bool
+    requires { ⌜ 1 ≤ length (now rows) ⌝ }
+    ensures { λ r. ⌜ r ≡ ltb places (beginsTo (now (rows .entry)) (length (now (rows .entry)))) ⌝ }
+{
+    if rows.len() <= places {
+        return false;
+    }
+    places < count_begins(rows)
+}
+
+// Questions 9 to 12, of the rows and the number of places: accepted, with no operation listed yet, if none is answered no.
+// No place is lent here, so that all is settled before one is written.
+fn settle(rows: &[u64], places: usize) -> Verdict
+    ensures { λ r. ⌜ answer r ≡ settledOf (now (rows .entry)) places ⌝ }
 {
     if right_length(rows.len()) {} else {
         return Verdict::WrongLength;
@@ -68,30 +81,55 @@ pub fn judge(rows: &[u64], order: &mut [u64]) -> Verdict
     if well_formed(rows) {} else {
         return Verdict::Malformed;
     }
-    if order.len() < count_begins(rows) {
+    if lacks_room(rows, places) {
         return Verdict::NoRoom;
     }
     let m = first_missing(rows);
     if m < rows.len() {
         return Verdict::NoOrder(m);
     }
-    let count = put_keys(rows, order);
-    decode_all(order, count);
-    Verdict::Accepted(count)
+    Verdict::Accepted(0)
 }
 
-// The number of the question answered no, or 0, without an order buffer: question 11 is not asked.
+// Writes the order of a log that has one, and gives the number of its operations.
+fn write_order(rows: &[u64], order: &mut [u64]) -> usize
+    requires { ⌜ settledOf (now rows) (length (now order)) .number ≡ 0 ⌝ }
+    ensures { λ r. ⌜ Put (listing (now (rows .entry))) (now (order .entry)) (now (order .exit)) r ⌝ }
+{
+    let count = put_keys(rows, order);
+    decode_all(order, count);
+    count
+}
+
+// The verdict, and the order in the lent places.
+pub fn judge(rows: &[u64], order: &mut [u64]) -> Verdict
+    ensures answer { λ r. ⌜ answer r ≡ answerOf (now (rows .entry)) (length (now (order .entry))) ⌝ }
+    ensures order { λ r. ⌜ now (order .exit) ≡ orderOf (now (rows .entry)) (now (order .entry)) ⌝ }
+    ensures meaning { λ r. ⌜ Means (now (rows .entry)) (now (order .entry)) (now (order .exit)) r ⌝ }
+{
+    let settled = settle(rows, order.len());
+    if let Verdict::Accepted(_) = settled {
+        return Verdict::Accepted(write_order(rows, order));
+    }
+    settled
+}
+
+// The number of a verdict.
+fn number_of(verdict: Verdict) -> u32
+    ensures { λ r. ⌜ r ≡ answer verdict .number ⌝ }
+{
+    match verdict {
+        Verdict::Accepted(_) => 0,
+        Verdict::WrongLength => 9,
+        Verdict::Malformed => 10,
+        Verdict::NoRoom => 11,
+        Verdict::NoOrder(_) => 12,
+    }
+}
+
+// The number of the question answered no, or 0, without an order buffer: as many places as rows are enough.
 pub(crate) fn number(rows: &[u64]) -> u32
     ensures { λ r. ⌜ r ≡ numberOf (now (rows .entry)) ⌝ }
 {
-    if right_length(rows.len()) {} else {
-        return 9;
-    }
-    if well_formed(rows) {} else {
-        return 10;
-    }
-    if first_missing(rows) < rows.len() {
-        return 12;
-    }
-    0
+    number_of(settle(rows, rows.len()))
 }

@@ -12,7 +12,8 @@ use Rattle.judge.specs.Meaning.{Fits}
 use Rattle.judge.specs.declared.verdict.Verdict.{Verdict}
 use Rattle.judge.specs.declared.verdict.Verdict.the-variants.{WrongLength}
 use Rattle.judge.proofs.ByteLaws.{rows-length}
-use Rattle.judge.proofs.Meaning.{Says, says-9, fits}
+use Rattle.judge.proofs.Meaning.{Says, fits}
+use Rattle.judge.proofs.Said.{says-9}
 use Rattle.verdict.specs.Log.{logAnswer, logOrder}
 
 -- what judge_log says

@@ -1,8 +1,13 @@
 use borrow.Author.Needs.{needs}
 use borrow.Author.Tests.{eq-eqb, ne-eqb}
 use Rattle.history.specs.WellFormed.{headOk}
+use Rattle.judge.specs.Frame.{KeepsLittle}
+use Rattle.judge.proofs.formed.head_ok.Code.{function}
 use Rattle.judge.proofs.formed.head_ok.Statement.{statement}
 use Rattle.judge.proofs.formed.head_ok.Tie as tie
+
+keeps-little : KeepsLittle function
+keeps-little = record { small = tt; inside = tt }
 
 returns : tie.Need-returns
 unfolding headOk

@@ -1,6 +1,11 @@
 use borrow.Author.Tests.{le-leb, lt-leb}
+use Rattle.judge.specs.Frame.{KeepsLittle}
+use Rattle.judge.proofs.formed.is_reader.Code.{function}
 use Rattle.judge.proofs.formed.is_reader.Statement.{statement}
 use Rattle.judge.proofs.formed.is_reader.Tie as tie
+
+keeps-little : KeepsLittle function
+keeps-little = record { small = tt; inside = tt }
 
 returns : tie.Need-returns
 returns c = rw (lt-leb _ _ (c .if1 .taken))

@@ -1,8 +1,13 @@
 use borrow.Author.Needs.{needs}
 use mathlib.Core.Path.{sym, _∙_}
 use Rattle.history.specs.WellFormed.{alternates}
+use Rattle.judge.specs.Frame.{KeepsLittle}
+use Rattle.judge.proofs.formed.may_follow.Code.{function}
 use Rattle.judge.proofs.formed.may_follow.Statement.{statement}
 use Rattle.judge.proofs.formed.may_follow.Tie as tie
+
+keeps-little : KeepsLittle function
+keeps-little = record { small = tt; inside = tt }
 
 returns : tie.Need-returns
 unfolding alternates

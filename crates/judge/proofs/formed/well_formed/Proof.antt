@@ -5,8 +5,13 @@ use Prim.Native.Nat.{_-_}
 use lib.ListN.{length}
 use Rattle.judge.proofs.Steps.{formed-head}
 use Rattle.judge.proofs.Checks.{Checked, checked-start, checked-all, wrong-fields, checked-in, wrong-turn, checked-next}
+use Rattle.judge.specs.Frame.{KeepsLittle}
+use Rattle.judge.proofs.formed.well_formed.Code.{function}
 use Rattle.judge.proofs.formed.well_formed.Statement.{statement}
 use Rattle.judge.proofs.formed.well_formed.Tie as tie
+
+keeps-little : KeepsLittle function
+keeps-little = record { small = tt; inside = tt }
 
 abbrev Inv-loop : tie.InvT-loop
 Inv-loop rows head n begins₀ k₀ begins k = Checked rows n k begins

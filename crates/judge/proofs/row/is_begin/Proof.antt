@@ -1,7 +1,12 @@
 use borrow.Author.Tests.{eq-eqb, ne-eqb}
 use Rattle.history.specs.Rows.{begins}
+use Rattle.judge.specs.Frame.{KeepsLittle}
+use Rattle.judge.proofs.row.is_begin.Code.{function}
 use Rattle.judge.proofs.row.is_begin.Statement.{statement}
 use Rattle.judge.proofs.row.is_begin.Tie as tie
+
+keeps-little : KeepsLittle function
+keeps-little = record { small = tt; inside = tt }
 
 returns : tie.Need-returns
 unfolding begins

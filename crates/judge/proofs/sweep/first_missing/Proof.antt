@@ -10,8 +10,13 @@ use Rattle.judge.specs.Sweeping.{Sweep, freshSweep, sweepTo}
 use Rattle.judge.proofs.Steps.{sweep-one}
 use Rattle.judge.proofs.Linked.{missing-is}
 use Rattle.judge.proofs.Loops.{Sweeps, sweeps-start, processor-in, sweeps-next, missing-step}
+use Rattle.judge.specs.Frame.{KeepsLittle}
+use Rattle.judge.proofs.sweep.first_missing.Code.{function}
 use Rattle.judge.proofs.sweep.first_missing.Statement.{statement}
 use Rattle.judge.proofs.sweep.first_missing.Tie as tie
+
+keeps-little : KeepsLittle function
+keeps-little = record { small = tt; inside = tt }
 
 abbrev Inv-loop : tie.InvT-loop
 Inv-loop rows begins₀ floors₀ top₀ missing₀ k₀ begins floors top missing k =

@@ -1,8 +1,13 @@
 use borrow.Author.Needs.{needs}
 use mathlib.Core.Path.{sym, _∙_}
 use Rattle.judge.specs.Sweeping.{floorAfter}
+use Rattle.judge.specs.Frame.{KeepsLittle}
+use Rattle.judge.proofs.sweep.floor_after.Code.{function}
 use Rattle.judge.proofs.sweep.floor_after.Statement.{statement}
 use Rattle.judge.proofs.sweep.floor_after.Tie as tie
+
+keeps-little : KeepsLittle function
+keeps-little = record { small = tt; inside = tt }
 
 returns : tie.Need-returns
 unfolding floorAfter

@@ -1,8 +1,13 @@
 use native.Mathlib.Omega.{arith}
 use borrow.Author.Needs.{needs}
 use Rattle.history.proofs.Source.{good-start, good-write, good-other}
+use Rattle.judge.specs.Frame.{KeepsLittle}
+use Rattle.judge.proofs.sweep.is_source.Code.{function}
 use Rattle.judge.proofs.sweep.is_source.Statement.{statement}
 use Rattle.judge.proofs.sweep.is_source.Tie as tie
+
+keeps-little : KeepsLittle function
+keeps-little = record { small = tt; inside = tt }
 
 returns : tie.Need-returns
 returns c = good-start _ _ _ (omega arith)

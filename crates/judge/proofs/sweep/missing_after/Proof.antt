@@ -1,8 +1,13 @@
 use native.Mathlib.Omega.{arith}
 use borrow.Author.Tests.{le-leb, lt-leb, eq-eqb, ne-eqb}
 use Rattle.judge.specs.Sweeping.{missingAfter}
+use Rattle.judge.specs.Frame.{KeepsLittle}
+use Rattle.judge.proofs.sweep.missing_after.Code.{function}
 use Rattle.judge.proofs.sweep.missing_after.Statement.{statement}
 use Rattle.judge.proofs.sweep.missing_after.Tie as tie
+
+keeps-little : KeepsLittle function
+keeps-little = record { small = tt; inside = tt }
 
 returns : tie.Need-returns
 unfolding missingAfter

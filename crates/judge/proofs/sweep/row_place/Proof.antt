@@ -1,8 +1,13 @@
 use borrow.Author.Needs.{needs}
 use borrow.Author.Tests.{ne-eqb}
 use Rattle.judge.specs.Sweeping.{placeRow}
+use Rattle.judge.specs.Frame.{KeepsLittle}
+use Rattle.judge.proofs.sweep.row_place.Code.{function}
 use Rattle.judge.proofs.sweep.row_place.Statement.{statement}
 use Rattle.judge.proofs.sweep.row_place.Tie as tie
+
+keeps-little : KeepsLittle function
+keeps-little = record { small = tt; inside = tt }
 
 returns : tie.Need-returns
 unfolding placeRow

@@ -6,8 +6,13 @@ use Rattle.history.specs.Search.{first}
 use Rattle.history.proofs.Search.{first-hit, first-miss, first-end}
 use Rattle.history.specs.Sweep.{isSource}
 use Rattle.history.specs.History.{historyOf}
+use Rattle.judge.specs.Frame.{KeepsLittle}
+use Rattle.judge.proofs.sweep.seek.Code.{function}
 use Rattle.judge.proofs.sweep.seek.Statement.{statement}
 use Rattle.judge.proofs.sweep.seek.Tie as tie
+
+keeps-little : KeepsLittle function
+keeps-little = record { small = tt; inside = tt }
 
 abbrev Inv-loop : tie.InvT-loop
 Inv-loop log v lo hi q₀ q = (hi ≤ length log) × (first (isSource (historyOf log) v) lo (hi - lo) ≡ first (isSource (historyOf log) v) q (hi - q))

@@ -6,8 +6,13 @@ use lib.ListN.{length, getD}
 use denote.Ref.{now}
 use Rattle.judge.specs.Answer.{beginsTo}
 use Rattle.judge.proofs.Steps.{begins-suc, begins-one, count-le}
+use Rattle.judge.specs.Frame.{KeepsLittle}
+use Rattle.judge.proofs.verdict.count_begins.Code.{function}
 use Rattle.judge.proofs.verdict.count_begins.Statement.{statement}
 use Rattle.judge.proofs.verdict.count_begins.Tie as tie
+
+keeps-little : KeepsLittle function
+keeps-little = record { small = tt; inside = tt }
 
 abbrev Inv-loop : tie.InvT-loop
 Inv-loop rows n₀ k₀ n k = (1 ≤ k) × (k ≤ length rows) × (n < k) × (n ≡ beginsTo rows k)
