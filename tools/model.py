@@ -1,14 +1,17 @@
 #!/usr/bin/env python3
 """Outside model of the arrow register and its judge, written from document 01 alone, and from
-document 02 for the requests that have landed (card 6; card 4 changes nothing that is told here).
+document 02 for the requests that have landed (card 6; card 9, with its report CS-R8704; card 4
+changes nothing that is told here).
 
     model.py bench              text on standard input, the bench's print on standard output
     model.py verdict            one line for the log whose bytes are on standard input
     model.py verdict FILE...    one line for each log file
-    model.py selftest           the sessions of document 01, and brute force against the sweep
+    model.py selftest           the sessions of document 01, brute force against the sweep, and
+                                the two definitions of card 9 on every log of a few rows
 
 The sections stand in the order of document 01, the buyer's scope. Quoted words are its
-own, or document 02's where that is said; “Open:” marks a choice where it leaves a point open.
+own, or document 02's or the report's where that is said; “Open:” marks a choice where it
+leaves a point open.
 """
 
 import random
@@ -17,7 +20,7 @@ import sys
 from bisect import bisect_left
 from collections import namedtuple
 from dataclasses import dataclass, field
-from itertools import count
+from itertools import count, product
 
 MAX_READERS = 16
 MAX_ROWS = 4096
@@ -415,6 +418,61 @@ def sweep(rows):
     return ('order', order[1:])  # without the start
 
 
+# ---------------------------------------------------------------------------- Two definitions
+# Document 02, card 9: the same verdict by report CS-R8704 (source document 000, section 1.1,
+# quoted here), literally, for small logs.
+
+def writes_of(rows):
+    """“the start counting as a write before all rows, an unended write as one that ends after
+    them” (02, card 9)."""
+    start = Deed(True, 0, 0, unpack_row(rows[0]).reading)
+    later = (deed for deed in deeds_of(rows) if deed.is_write)
+    return [start] + [deed._replace(end=len(rows)) if deed.end is None else deed for deed in later]
+
+
+def choices(rows):
+    """Every choice of a write for each read, “a read being free to stand for any write of equal
+    reading”, “unended reads left out” (02, card 9): lists of pairs."""
+    reads = [deed for deed in deeds_of(rows) if not deed.is_write and deed.end is not None]
+    writes = writes_of(rows)
+    return product(*([(read, write) for write in writes if write.reading == read.reading]
+                     for read in reads))
+
+
+def concurrent(a, b):
+    """“Operations incomparable under this precedence relation are considered to be
+    concurrent.”"""
+    return not precedes(a, b) and not precedes(b, a)
+
+
+def is_regular(choice, writes):
+    """“A register is regular if any read returns either the value written by a write that is
+    concurrent with it or the value written by the last write that precedes it.”"""
+    return all(concurrent(write, read)
+               or write == [other for other in writes if precedes(other, read)][-1]
+               for read, write in choice)
+
+
+def is_inverted(choice):
+    """“it cannot happen that the two writes, which wrote the values returned by two reads, are
+    ordered in the opposite direction than their corresponding reads”: whether it does."""
+    return any(precedes(read, later_read) and precedes(later_write, write)
+               for read, write in choice for later_read, later_write in choice)
+
+
+def is_atomic(rows):
+    """One choice for both: “A register is atomic if it is regular and” has no inversion."""
+    writes = writes_of(rows)
+    return any(is_regular(choice, writes) and not is_inverted(choice) for choice in choices(rows))
+
+
+def is_atomic_by_two_choices(rows):
+    """What it would be if regular by one choice, and without inversion by another, were enough."""
+    writes = writes_of(rows)
+    return (any(is_regular(choice, writes) for choice in choices(rows))
+            and any(not is_inverted(choice) for choice in choices(rows)))
+
+
 # ---------------------------------------------------------------------------- Questions
 
 @dataclass
@@ -630,6 +688,16 @@ def equal(got, wanted, what):
     must(got == wanted, f'{what}: {str(got)[:200]!r}, wanted {str(wanted)[:200]!r}')
 
 
+def small_logs(n, readings, length):
+    """Every well-formed log of n readers, so many readings and so many rows, with start reading 0."""
+    logs = [([pack_row(5, n, 0)], frozenset())]
+    for _ in range(length - 1):
+        logs = [(rows + [pack_row((1 if p == 0 else 3) + (p in busy), p, reading)], busy ^ {p})
+                for rows, busy in logs for p in range(n + 1)
+                for reading in (range(readings) if (p == 0) != (p in busy) else (0,))]
+    return [rows for rows, _ in logs]
+
+
 def log_of(n, start, text=''):
     """A log from words like 'W 5, R 1, r 1 5, w'."""
     rows = [pack_row(5, n, start)]
@@ -842,6 +910,11 @@ JUDGE_SESSIONS = [
     (2, 7, '', 'order'),
     # Open: all writes are kept when the row of refusal 12 is sought.
     (2, 7, 'R 1, W 5, w, r 1 5, R 2, r 2 7', 'no order 5'),
+    # Card 9: regular but inverted; only the second of two equal readings will do; no choice of
+    # writes is both regular and without inversion.
+    (2, 7, 'W 5, w, W 6, R 1, r 1 6, R 2, r 2 5', 'no order 6'),
+    (2, 7, 'W 5, w, W 6, R 2, r 2 6, R 1, w, W 5, r 1 5', 'order 1 3 4 8 6'),
+    (2, 7, 'W 5, w, W 7, R 1, r 1 7, R 1, r 1 5', 'no order 6'),
     # Card 6: reads behind the start, and behind a write, by end row; the row of 12 by begin row.
     (2, 7, 'R 1, R 2, r 2 7, r 1 7, W 5, R 1, R 2, r 2 5, r 1 5', 'order 2 1 5 7 6'),
     (2, 7, 'W 5, w, R 1, R 2, r 2 7, r 1 7', 'no order 3'),
@@ -864,6 +937,7 @@ def test_judge_questions():
         rows = log_of(n, start, text)
         equal(verdict(judge(rows)), line, text)
         equal(brute(rows), sweep(rows), text)
+        equal(is_atomic(rows), line.startswith('order'), 'atomic: ' + text)
         equal(judge(rows, begin_rows(rows)), judge(rows), 'just enough order places')
         if text:
             equal(judge(rows, begin_rows(rows) - 1), ('refused', 11), 'one place too few')
@@ -925,9 +999,32 @@ def test_judges():
         must(well_formed(rows), 'well-formed log ' + name)
         answer = brute(rows)
         equal(sweep(rows), answer, 'sweep of ' + name)
+        equal(is_atomic(rows), answer[0] == 'order', 'atomic: ' + name)
         must(sort != 1 or answer[0] == 'order', 'order of the register\'s log ' + name)
         tally[answer[0]] += 1
     must(min(tally.values()) > 1000, 'both judgments are common')
+    return tally
+
+
+def test_definitions():
+    """Card 9 on every log of a few rows: atomic by CS-R8704 exactly if there is an order, and
+    exactly if there is one that holds the unended write, too. With two choices of writes the
+    definitions would differ, but on no log of fewer than 8 rows."""
+    tally = 0
+    for n, readings, most in ((1, 2, 8), (2, 2, 7), (2, 3, 6)):
+        for length in range(1, most + 1):
+            differing = 0
+            for rows in small_logs(n, readings, length):
+                name = bytes_of(rows).hex()
+                start, deeds = unpack_row(rows[0]).reading, deeds_of(rows)
+                atomic = is_atomic(rows)
+                equal(next(orders(deeds, start), None) is not None, atomic, 'order of ' + name)
+                full = [deed for deed in deeds if deed.is_write or deed.end is not None]
+                equal(next(arrangements([], full, start), None) is not None, atomic,
+                      'order with every write of ' + name)
+                differing += is_atomic_by_two_choices(rows) != atomic
+                tally += 1
+            equal(differing, 6 if length == 8 else 0, f'two choices, {length} rows')
     return tally
 
 
@@ -967,6 +1064,7 @@ def selftest():
     test_bench()
     test_register()
     tally = test_judges()
+    print(f'two definitions agree on all {test_definitions()} small logs')
     print(f"brute force and sweep agree: {tally['order']} orders, {tally['refused']} refusals")
     print('selftest passed')
 

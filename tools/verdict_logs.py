@@ -1,12 +1,12 @@
 """Logs for the program verdict, the same at every run, and the line that the outside model gives
-for each. Small logs are judged twice, by the definition of an order and by the sweep.
-`prints.py` writes them."""
+for each. Small logs are judged three times, by the definition of an order, by report CS-R8704's and
+by the sweep. `prints.py` writes them."""
 
 from model import (
-    MAX_ROWS, brute, bytes_of, damaged, equal, judge_bytes, log_of, must, pack_row, random_log,
-    register_log, rows_of, sweep, verdict)
+    MAX_ROWS, brute, bytes_of, damaged, equal, is_atomic, judge_bytes, log_of, must, pack_row,
+    random_log, register_log, rows_of, sweep, verdict)
 
-BRUTE_ROWS = 17  # logs of at most this many rows are judged by the definition too
+BRUTE_ROWS = 17  # logs of at most this many rows are judged by the definitions too
 WORD = (1 << 64) - 1
 
 
@@ -94,6 +94,10 @@ REQUESTED_LOGS = [
     ('ends-of-one-reader-between', 2, 7, 'R 1, R 2, r 2 7, R 2, r 2 7, R 2, r 1 7, r 2 7'),
     ('ends-falling-sixteen', 16, 7,
      ', '.join([f'R {i}' for i in range(1, 17)] + [f'r {i} 7' for i in range(16, 0, -1)])),
+
+    # Card 9, two definitions.
+    ('reports-regular-but-inverted', 2, 7, 'W 5, w, W 6, R 1, r 1 6, R 2, r 2 5'),
+    ('reports-two-choices', 1, 7, 'W 5, w, W 7, R 1, r 1 7, R 1, r 1 5'),
 ]
 
 START, OPEN_WRITE, OPEN_READ = log_of(2, 7), log_of(2, 7, 'W 5'), log_of(2, 7, 'R 1')
@@ -198,6 +202,7 @@ def expected(name, data):
     well_formed = answer[0] == 'order' or answer[1] == 12
     if well_formed and len(data) <= 8 * BRUTE_ROWS:
         equal(brute(rows_of(data)), answer, name)
+        equal(is_atomic(rows_of(data)), answer[0] == 'order', name)
     return verdict(answer)
 
 

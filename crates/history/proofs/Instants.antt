@@ -1,4 +1,4 @@
--- An order gives instants, and instants give an order.
+-- An order gives instants.
 use Prim.Native.Nat.{ℕ, zero, suc, _+_, _*_, _≤_, _<_, max}
 use mathlib.Core.Path.{_≡_, refl, ap}
 use mathlib.Core.Logic.{_⊎_, inl, inr, _≢_}
@@ -7,7 +7,7 @@ use native.Mathlib.Nat.{mul-le-mul-right}
 use native.Mathlib.Decide.{decLt, ℕ-discrete}
 use native.Mathlib.Omega.{arith}
 use lib.ListN.{getD}
-use Rattle.history.specs.History.{History, Write, Read, Precedes}
+use Rattle.history.specs.History.{History, Write, Read}
 use Rattle.history.specs.Linearization.{Stands, Linearization}
 use Rattle.history.specs.Instants.{unit, Instants}
 use Rattle.history.proofs.Placement.{Laws}
@@ -78,17 +78,3 @@ module _ (h : History) (L : Laws h) (m : ℕ) (l : List ℕ) (O : Linearization 
     where
       own : (i x : ℕ) → Stands l i x → x ≤ highest l i
       own i x s = omega (arith, highest-own l i, s .there)
-
--- Instants respect precedence: what ended before another began took effect before it.
-pub instants-respect : (h : History) (l : List ℕ) (t : ℕ → ℕ) → Instants h l t
-    → (i j a b : ℕ) → Stands l i a → Stands l j b → Precedes h a b → i < j
-instants-respect h l t I i j a b s u p = elim (decLt i j) [
-  | yes c ↦ c
-  | no c ↦ elim (ℕ-discrete i j) [
-    | yes e ↦ absurd (omega (arith, I .before i a s, I .after j b u, mul-le-mul-right (unit l) (le p), ap t e))
-    | no e ↦ absurd (omega (arith, I .before i a s, I .after j b u, mul-le-mul-right (unit l) (le p), I .rising j i (omega arith) (s .within)))
-  ]
-]
-  where
-    le : h .end a < b → h .end a ≤ b
-    le c = omega arith

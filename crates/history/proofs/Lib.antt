@@ -17,4 +17,8 @@ pub mod Unique
 pub mod EarliestLaws
 pub mod Swept
 pub mod Instants
+pub mod Regular
+pub mod Shrinking
+pub mod Chosen
+pub mod Full
 pub mod Theorems

@@ -1,28 +1,33 @@
 -- What holds of a well-formed log, in one place.
-use Prim.Native.Nat.{ℕ, _≤_, _<_}
+use Prim.Native.Nat.{ℕ, _≤_}
 use mathlib.Core.Path.{_≡_, sym, _∙_}
-use mathlib.Core.Logic.{_⊎_, _↔_}
+use mathlib.Core.Logic.{_↔_}
 use mathlib.Core.List.{List}
 use native.Mathlib.Omega.{arith}
 use lib.Dec.{T}
 use lib.ListN.{length}
 use Rattle.history.specs.WellFormed.{wellFormed}
-use Rattle.history.specs.History.{History, historyOf, Write, Read, Precedes}
-use Rattle.history.specs.Linearization.{Stands, lastWrite, Orders}
+use Rattle.history.specs.History.{History, historyOf, Precedes}
+use Rattle.history.specs.Linearization.{Stands, lastWrite, Orders, FullOrder}
 use Rattle.history.specs.Earliest.{Earliest}
 use Rattle.history.specs.Instants.{Instants}
+use Rattle.history.specs.Regular.{Precedence, IsAtomic}
+use Rattle.history.specs.Shrinking.{IsAtomicRun}
 use Rattle.history.specs.Sweep.{missing}
 use Rattle.history.specs.Listing.{listing}
 use Rattle.history.specs.Swept.{Swept}
 use Rattle.history.proofs.Placement.{Laws}
 use Rattle.history.proofs.WellFormed.{laws}
 use Rattle.history.proofs.Least.{sound}
-use Rattle.history.proofs.FromOrder.{mono}
+use Rattle.history.proofs.FromOrder.{mono, placed}
 use Rattle.history.proofs.Built.{ordered}
 use Rattle.history.proofs.Verdict.{found, before-missing, has-order}
 use Rattle.history.proofs.EarliestLaws.{listing-earliest, unique}
 use Rattle.history.proofs.Swept.{swept-placed}
-use Rattle.history.proofs.Instants.{instantOf, order-instants, instants-respect}
+use Rattle.history.proofs.Regular.{strict, atomic-placed, placed-atomic}
+use Rattle.history.proofs.Shrinking.{run-placed, shrunk}
+use Rattle.history.proofs.Full.{filled}
+use Rattle.history.proofs.Instants.{instantOf, order-instants}
 
 module _ (log : List ℕ) (formed : T (wellFormed log)) where
   abbrev h : History
@@ -53,27 +58,31 @@ module _ (log : List ℕ) (formed : T (wellFormed log)) where
       let p = swept-placed s formed in
       (_, ordered (historyOf log) L (length log) (p .0) (p .1))
 
-  -- An order gives each of its operations an instant within its span, in that order;
+  -- An order gives each of its operations an instant within its span, in that order.
   pub has-instants : (l : List ℕ) → Orders log l → Instants (historyOf log) l (instantOf l)
   has-instants l O = order-instants (historyOf log) L (length log) l O
 
-  -- and with instants, an order is as good as its contents and readings.
-  pub from-instants : (l : List ℕ) (t : ℕ → ℕ) → Instants (historyOf log) l t
-      → ((i x : ℕ) → Stands l i x → Write (historyOf log) x ⊎ Read (historyOf log) (length log) x)
-      → ((w : ℕ) → Write (historyOf log) w → historyOf log .end w < length log → (i : ℕ) × Stands l i w)
-      → ((r : ℕ) → Read (historyOf log) (length log) r → (i : ℕ) × Stands l i r)
-      → ((i j x : ℕ) → Stands l i x → Stands l j x → i ≡ j)
-      → ((i r : ℕ) → Stands l i r → Read (historyOf log) (length log) r
-      → historyOf log .value (lastWrite (historyOf log) l i) ≡ historyOf log .value (historyOf log .end r))
-      → Orders log l
-  from-instants l t I only writes reads once reading = record {
-    only = only;
-    writes = writes;
-    reads = reads;
-    once = once;
-    respects = instants-respect (historyOf log) l t I;
-    reading = reading;
-  }
+  -- Precedence among the operations is what report CS-R8704 takes for granted, and the start and an unended write are where the card puts them.
+  pub precedence : Precedence (historyOf log)
+  precedence = strict (historyOf log) L
+
+  -- "Two definitions, one verdict" (document 02, card 9): a log is atomic by report CS-R8704 exactly if it has an order,
+  pub two-definitions : IsAtomic log ↔ ((l : List ℕ) × Orders log l)
+  two-definitions = (
+    λ t. (_, ordered (historyOf log) L (length log) (t .0) (atomic-placed (historyOf log) L (t .0) (t .1))),
+    λ t. (_, placed-atomic (historyOf log) L _ (placed (historyOf log) L (length log) (t .0) (t .1))),
+  )
+
+  -- exactly if it has one with every write in it, the unended one, too,
+  pub full-order : ((l : List ℕ) × FullOrder (historyOf log) l) ↔ ((l : List ℕ) × Orders log l)
+  full-order = (λ t. (t .0, t .1 .order), λ t. filled (historyOf log) L (t .0) (t .1))
+
+  -- and exactly if it is atomic by report CS-R8628.
+  pub serial-shrinking : IsAtomicRun log ↔ ((l : List ℕ) × Orders log l)
+  serial-shrinking = (
+    λ S. (_, ordered (historyOf log) L (length log) (S .π) (run-placed (historyOf log) L S)),
+    λ t. let f = filled (historyOf log) L (t .0) (t .1) in shrunk (historyOf log) L (f .0) (f .1),
+  )
 
   -- "when my arrow and the one on your panel disagree, can yours be the older although you looked later?": no. A read that began
   -- after another had ended stands behind the same write or a later one.

@@ -1,4 +1,5 @@
--- An instant for each operation, within its span: a serial shrinking of the history (report CS-R8628).
+-- An instant for each operation of an order, within its span: "Each action can be thought to take place in an atomic grain of time, and this
+-- time atom is situated somewhere in the action's finite time span" (report CS-R8628, introduction).
 use Prim.Native.Nat.{ℕ, suc, _*_, _<_}
 use mathlib.Core.List.{List}
 use lib.ListN.{length}

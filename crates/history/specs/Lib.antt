@@ -5,6 +5,10 @@ pub mod History
 pub mod Linearization
 pub mod Earliest
 pub mod Instants
+pub mod ReadsFrom
+pub mod Regular
+pub mod Shrinking
 pub mod Sweep
+pub mod Chosen
 pub mod Listing
 pub mod Swept

@@ -33,3 +33,8 @@ pub record Linearization (h : History) (m : ℕ) (l : List ℕ) : Type 0 where
 -- an order of a whole log
 abbrev pub Orders : List ℕ → List ℕ → Type 0
 Orders log l = Linearization (historyOf log) (length log) l
+
+-- an order with every write in it, the unended one, too
+pub record FullOrder (h : History) (l : List ℕ) : Type 0 where
+  pub order : Linearization h (h .len) l
+  pub all-writes : (w : ℕ) → Write h w → (i : ℕ) × Stands l i w

@@ -1,1 +1,2 @@
-// What a log means: its operations, their precedence, and the total orders that explain it. Definitions in specs/, theorems in proofs/.
+// What a log means: its operations, their precedence, the total orders that explain it, and what two reports call atomic. Definitions in specs/,
+// theorems in proofs/.

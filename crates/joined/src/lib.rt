@@ -1,1 +1,2 @@
-// What joins the two products, which know nothing of each other: the judge accepts every log of the register. See proofs/.
+// What joins the two products, which know nothing of each other: the judge accepts every log of the register, which is
+// atomic by both reports. See proofs/.

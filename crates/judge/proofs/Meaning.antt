@@ -2,7 +2,7 @@
 use Prim.Native.Nat.{ℕ, _%_, _≤_, _<_}
 use native.Mathlib.Omega.{arith}
 use native.Mathlib.Decide.{ℕ-discrete}
-use mathlib.Core.Path.{_≡_, refl, sym, ap, _∙_}
+use mathlib.Core.Path.{_≡_, refl, sym, ap, subst, _∙_}
 use mathlib.Core.Logic.{_↔_}
 use mathlib.Core.List.{List}
 use lib.Dec.{eqb}
@@ -13,15 +13,16 @@ use Rattle.words.specs.Choice.{pick}
 use Rattle.words.proofs.Laws.Choice.{T-left}
 use Rattle.logbytes.specs.Bytes.{rowsOf}
 use Rattle.history.specs.History.{historyOf, Read}
+use Rattle.history.specs.Linearization.{Orders}
 use Rattle.history.specs.Sweep.{isRead, fails, missing}
 use Rattle.history.specs.Listing.{listing}
 use Rattle.history.proofs.Search.{first-passes}
 use Rattle.history.proofs.Built.{read→}
 use Rattle.history.proofs.WellFormed.{laws}
 use Rattle.history.proofs.Verdict.{before-missing, none-with}
-use Rattle.history.proofs.Theorems.{at-most-one, has-earliest, ordered-if-swept}
+use Rattle.history.proofs.Theorems.{at-most-one, has-earliest, ordered-if-swept, two-definitions, serial-shrinking}
 use Rattle.judge.specs.Answer.{Answer, answer, beginsTo, answerOf, laid, orderOf, numberOf, bytesNumber}
-use Rattle.judge.specs.Meaning.{Roomy, No12, Yes, Means, Ordered, BytesOrdered, Fits}
+use Rattle.judge.specs.Meaning.{Formed, Roomy, BothReports, No12, Yes, Means, Ordered, BytesMean, Fits}
 use Rattle.judge.specs.declared.verdict.Verdict.{Verdict}
 use Rattle.judge.specs.declared.verdict.Verdict.the-variants.{Accepted, WrongLength, Malformed, NoRoom, NoOrder}
 use Rattle.judge.proofs.Asked.{Asked, no9, no10, no11, no12, none, ask, cases-are, questionOf, asked-number}
@@ -53,6 +54,17 @@ verdict-back (NoOrder r) = refl
 pub one-verdict : (v w : Verdict) → answer v ≡ answer w → v ≡ w
 one-verdict v w e = sym (verdict-back v) ∙ ap verdictOf e ∙ verdict-back w
 
+-- "Two definitions, one verdict": where 0 is the number of the logs with an order, it is that of the logs that are atomic by either report.
+by-reports : (log : List ℕ) → Formed log → (k : ℕ) → (k ≡ 0) ↔ ((l : List ℕ) × Orders log l) → BothReports log k
+by-reports log F k i =
+    let d = two-definitions log (F .formed) in
+    let s = serial-shrinking log (F .formed) in
+    record {
+      ordered = i;
+      cs-r8704 = (λ z. d .1 (i .0 z), λ A. i .1 (d .0 A));
+      cs-r8628 = (λ z. s .1 (i .0 z), λ A. i .1 (s .0 A));
+    }
+
 -- What is answered by definition, with the places that it leaves, means what document 01 says.
 module _ (log o : List ℕ) where
   means-12 : Roomy log o → missing (historyOf log) < length log → orderOf log o ≡ o → No12 log o (orderOf log o) (missing (historyOf log))
@@ -63,6 +75,9 @@ module _ (log o : List ℕ) where
         read = missing-read log a;
         before = λ m c. (_, before-missing (historyOf log) L m c);
         none = λ m c l O. none-with (historyOf log) L m l a c O;
+        reports =
+            by-reports log (R .log-ok) 12
+            (λ z. absurd (omega arith), λ t. absurd (none-with (historyOf log) L (length log) (t .0) a a (t .1)));
         same = e;
       }
 
@@ -73,12 +88,14 @@ module _ (log o : List ℕ) where
   means-yes : Roomy log o → length log ≤ missing (historyOf log) → orderOf log o ≡ laid (listing log) o → Yes log o (orderOf log o) (length (listing log))
   means-yes R a e =
       let w = R .log-ok .formed in
-      let E = has-earliest log w _ (before-missing (historyOf log) (laws log w) (length log) a) in
+      let O = before-missing (historyOf log) (laws log w) (length log) a in
+      let E = has-earliest log w _ O in
       let front : take (length (listing log)) (orderOf log o) ≡ listing log = ap (take (length (listing log))) e ∙ laid-take (listing log) o in
       record {
         asked = R;
         order = rw front E;
         only = λ l C. at-most-one log w l (listing log) C E ∙ sym front;
+        reports = by-reports log (R .log-ok) 0 (λ _. (_, O), λ _. refl);
         count = ap length (sym front);
         beyond = ap (drop (length (listing log))) e ∙ beyond-laid (listing log);
       }
@@ -138,16 +155,27 @@ pub number-if-ordered : (log : List ℕ) → (numberOf log ≡ 0) ↔ Ordered lo
 unfolding numberOf
 number-if-ordered log = accepted-if-ordered log (beginsTo log (length log)) (omega arith)
 
+-- of a log that passes questions 9 and 10, by both reports,
+pub number-by-reports : (log : List ℕ) → Formed log → BothReports log (numberOf log)
+number-by-reports log F =
+    let i = number-if-ordered log in
+    by-reports log F (numberOf log) (λ z. i .0 z .order, λ t. i .1 (record { log-ok = F; order = t }))
+
 -- and of bytes.
-pub bytes-if-ordered : (b : List ℕ) → (bytesNumber b ≡ 0) ↔ BytesOrdered b
+pub bytes-mean : (b : List ℕ) → BytesMean b (bytesNumber b)
 unfolding bytesNumber
-bytes-if-ordered b = go (ℕ-discrete (length b % 8) 0)
+bytes-mean b = go (ℕ-discrete (length b % 8) 0)
   where
-    go : Dec (length b % 8 ≡ 0) → (bytesNumber b ≡ 0) ↔ BytesOrdered b
+    go : Dec (length b % 8 ≡ 0) → BytesMean b (bytesNumber b)
     go (yes e) =
         let i = number-if-ordered (rowsOf b) in
-        rw (eq-eqb (length b % 8) 0 e) (λ z. record { whole = e; ordered = i .0 z }, λ O. i .1 (O .ordered))
-    go (no n) = rw (ne-eqb (length b % 8) 0 n) (λ z. absurd (omega arith), λ O. absurd (n (O .whole)))
+        rw (eq-eqb (length b % 8) 0 e)
+        (record {
+          is-zero = (λ z. record { whole = e; ordered = i .0 z }, λ O. i .1 (O .ordered));
+          reports = λ _ F. number-by-reports (rowsOf b) F;
+        })
+    go (no n) =
+        rw (ne-eqb (length b % 8) 0 n) (record { is-zero = (λ z. absurd (omega arith), λ O. absurd (n (O .whole))); reports = λ e F. absurd (n e) })
 
-pub bytes-says : (b : List ℕ) (r : ℕ) → r ≡ bytesNumber b → (r ≡ bytesNumber b) × ((r ≡ 0) ↔ BytesOrdered b)
-bytes-says b r e = let i = bytes-if-ordered b in (e, (λ z. i .0 (sym e ∙ z), λ O. e ∙ i .1 O))
+pub bytes-says : (b : List ℕ) (r : ℕ) → r ≡ bytesNumber b → (r ≡ bytesNumber b) × BytesMean b r
+bytes-says b r e = (e, subst (λ (k : ℕ). BytesMean b k) (sym e) (bytes-mean b))

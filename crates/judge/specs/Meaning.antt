@@ -1,7 +1,8 @@
--- What the judge's verdict means, in document 01's words.
+-- What the judge's verdict means, in the words of documents 01 and 02.
 use Prim.Native.Nat.{ℕ, _%_, _≤_, _<_}
 use mathlib.Core.Path.{_≡_}
 use mathlib.Core.Bool.{not}
+use mathlib.Core.Logic.{_↔_}
 use mathlib.Core.List.{List}
 use lib.Dec.{T}
 use lib.ListN.{length, take, drop}
@@ -10,7 +11,9 @@ use Rattle.history.specs.WellFormed.{wellFormed}
 use Rattle.history.specs.History.{historyOf, Read}
 use Rattle.history.specs.Linearization.{Linearization, Orders}
 use Rattle.history.specs.Earliest.{Earliest}
-use Rattle.judge.specs.Answer.{beginsTo}
+use Rattle.history.specs.Regular.{IsAtomic}
+use Rattle.history.specs.Shrinking.{IsAtomicRun}
+use Rattle.judge.specs.Answer.{answer, beginsTo}
 use Rattle.judge.specs.declared.verdict.Verdict.{Verdict}
 use Rattle.judge.specs.declared.verdict.Verdict.the-variants.{Accepted, WrongLength, Malformed, NoRoom, NoOrder}
 
@@ -28,6 +31,13 @@ pub record Formed (log : List ℕ) : Type 0 where
 pub record Roomy (log o : List ℕ) : Type 0 where
   pub log-ok : Formed log
   pub room : beginsTo log (length log) ≤ length o
+
+-- "Two definitions, one verdict" (document 02, card 9), of a log that passes the questions before 12: the answer's number is 0 exactly if
+-- the log has an order, exactly if it is atomic by report CS-R8704, and exactly if it is by report CS-R8628
+pub record BothReports (log : List ℕ) (number : ℕ) : Type 0 where
+  pub ordered : (number ≡ 0) ↔ ((l : List ℕ) × Orders log l)
+  pub cs-r8704 : (number ≡ 0) ↔ IsAtomic log
+  pub cs-r8628 : (number ≡ 0) ↔ IsAtomicRun log
 
 -- The refusals, where the places o have become e. "A no gives its number and alters nothing."
 pub record No9 (log o e : List ℕ) : Type 0 where
@@ -54,6 +64,8 @@ pub record No12 (log o e : List ℕ) (r : ℕ) : Type 0 where
   pub before : (m : ℕ) → m ≤ r → (l : List ℕ) × Linearization (historyOf log) m l
   -- "it and those begun before it already have none"
   pub none : (m : ℕ) → r < m → (l : List ℕ) → Linearization (historyOf log) m l → ⊥
+  -- and it is atomic by neither report
+  pub reports : BothReports log (answer (NoOrder r) .number)
   pub same : e ≡ o
 
 -- Accepted, with n operations.
@@ -64,6 +76,8 @@ pub record Yes (log o e : List ℕ) (n : ℕ) : Type 0 where
   pub count : n ≡ length (take n e)
   -- no other list is that
   pub only : (l : List ℕ) → Earliest (historyOf log) l → l ≡ take n e
+  -- and it is atomic by both reports
+  pub reports : BothReports log (answer (Accepted n) .number)
   -- "places beyond are untouched"
   pub beyond : drop n e ≡ drop n o
 
@@ -91,3 +105,8 @@ pub record Ordered (log : List ℕ) : Type 0 where
 pub record BytesOrdered (b : List ℕ) : Type 0 where
   pub whole : length b % 8 ≡ 0
   pub ordered : Ordered (rowsOf b)
+
+-- The byte judge's number: 0 exactly if so; and of bytes that pass questions 9 and 10 both reports say the same.
+pub record BytesMean (b : List ℕ) (number : ℕ) : Type 0 where
+  pub is-zero : (number ≡ 0) ↔ BytesOrdered b
+  pub reports : length b % 8 ≡ 0 → Formed (rowsOf b) → BothReports (rowsOf b) number

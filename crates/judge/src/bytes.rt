@@ -1,15 +1,14 @@
 // The judge for the boards' host, which is C: a log as bytes, eight a row, most significant first.
 use super::verdict::number;
 ghost use mathlib.Core.Path.{_≡_};
-ghost use mathlib.Core.Logic.{_↔_};
 ghost use Rattle.judge.specs.Answer.{bytesNumber};
-ghost use Rattle.judge.specs.Meaning.{BytesOrdered};
+ghost use Rattle.judge.specs.Meaning.{BytesMean};
 
 // 0, or the number of the question answered no: 9, 10 or 12. A length that is not a multiple of 8 is 9.
 #[no_mangle]
 pub extern "C" fn judge_bytes(bytes: &[u8]) -> u32
     ensures number { λ r. ⌜ r ≡ bytesNumber (now (bytes .entry)) ⌝ }
-    ensures meaning { λ r. ⌜ (r ≡ 0) ↔ BytesOrdered (now (bytes .entry)) ⌝ }
+    ensures meaning { λ r. ⌜ BytesMean (now (bytes .entry)) r ⌝ }
 {
     let n = bytes.len();
     if n % 8 != 0 {

@@ -1,6 +1,6 @@
 -- A session: what is done, and what is to come of it.
 use Prim.Native.Nat.{ℕ, _+_, _*_}
-use mathlib.Core.Bool.{Bool, true, false, _&&_}
+use mathlib.Core.Bool.{Bool, true, false, not, _&&_}
 use mathlib.Core.List.{List, [], _∷_}
 use lib.Dec.{eqb}
 use lib.ListN.{length, take}
@@ -10,6 +10,8 @@ use Rattle.words.specs.Choice.{pick}
 use Rattle.words.specs.Stamp.{same}
 use Rattle.words.specs.Cell.{packCell, unpackCell}
 use Rattle.words.specs.Row.{packRow, unpackRow}
+use Rattle.history.specs.History.{historyOf}
+use Rattle.history.specs.Chosen.{chosen, readsFrom, regular, uninverted}
 use Rattle.judge.specs.Answer.{answerOf, orderOf}
 use Rattle.protocol.specs.declared.Answer.{Answer}
 use Rattle.protocol.specs.Answers.{numberOf, subStepOf}
@@ -24,6 +26,9 @@ pub data Session : Type 0 where
   row : Row → ℕ → Session
   -- a log that is judged, with the places for its order; the answer's number and values, and the places after the call
   judged : List ℕ → List ℕ → ℕ → List ℕ → List ℕ → Session
+  -- a log that is tried with a write of equal reading for each of its reads, by begin rows (report CS-R8704): whether it is regular by this
+  -- choice, and whether no two reads are inverted
+  tried : (log : List ℕ) (choice : List (ℕ × ℕ)) (isRegular isUninverted : Bool) → Session
   -- a set-up of n readers with start reading v on a lent table and log, refused by its number
   denied : (n v : ℕ) (table log : List ℕ) (number : ℕ) → Session
   -- an accepted one and the calls behind it; their answers as numbers, and the whole table and log after the last
@@ -40,6 +45,9 @@ sameList [] [] = true
 sameList [] (y ∷ ys) = false
 sameList (x ∷ xs) [] = false
 sameList (x ∷ xs) (y ∷ ys) = eqb x y && sameList xs ys
+
+abbrev sameBool : Bool → Bool → Bool
+sameBool a b = pick a b (not b)
 
 -- an answer as a number: 0 accepted, m for sub-step m, 100 + k for refusal k
 abbrev told : Answer → ℕ
@@ -69,6 +77,10 @@ holds (row r w) = eqb (packRow r) w && sameRow (unpackRow w) r
 holds (judged log o n vs e) =
     let a = answerOf log (length o) in
     eqb (a .number) n && (sameList (a .values) vs && sameList (orderOf log o) e)
+holds (tried log choice isRegular isUninverted) =
+    let h = historyOf log in
+    let f = chosen choice in
+    readsFrom h f && (sameBool (regular h f) isRegular && sameBool (uninverted h f) isUninverted)
 holds (denied n v t l number) =
     let o = setUpOf n v t l in
     eqb (told (o .answer)) (100 + number) && (sameList (o .table) t && sameList (o .log) l)

@@ -1,5 +1,6 @@
 -- The sessions of document 01, in its order, and a few more. The words that runs leave are document 01's, or an outside model's.
 use Prim.Native.Nat.{ℕ}
+use mathlib.Core.Bool.{true, false}
 use mathlib.Core.List.{List, [], _∷_, _++_}
 use lib.ListN.{replicate}
 use Rattle.words.specs.declared.stamp.Stamp.{Stamp}
@@ -8,7 +9,7 @@ use Rattle.words.specs.declared.row.Row.{Row}
 use Rattle.words.specs.Stamp.{none}
 use Rattle.words.specs.Row.{packRow}
 use Rattle.protocol.specs.Reference.{Call, write, read, step}
-use Rattle.sessions.specs.Session.{Session, cell, row, judged, denied, run}
+use Rattle.sessions.specs.Session.{Session, cell, row, judged, tried, denied, run}
 
 abbrev stamp : ℕ → ℕ → Stamp
 stamp c p = record { cur = c; prev = p }
@@ -38,6 +39,19 @@ R i = packRow (event 3 i 0)
 
 abbrev r : ℕ → ℕ → ℕ
 r i v = packRow (event 4 i v)
+
+-- Three logs for report CS-R8704.
+-- The first read stands for the write of 6, the second for that of 5.
+abbrev regularButInverted : List ℕ
+regularButInverted = two (W 5 ∷ w ∷ W 6 ∷ R 1 ∷ r 1 6 ∷ R 2 ∷ r 2 5 ∷ [])
+
+-- Two writes are of 5; only the second comes behind the write of 6, which has been read before.
+abbrev secondOfTwo : List ℕ
+secondOfTwo = two (W 5 ∷ w ∷ W 6 ∷ R 2 ∷ r 2 6 ∷ R 1 ∷ w ∷ W 5 ∷ r 1 5 ∷ [])
+
+-- By one choice of writes it is regular and inverts two reads, by another it inverts none and is not regular.
+abbrev pub twoChoices : List ℕ
+twoChoices = two (W 5 ∷ w ∷ W 7 ∷ R 1 ∷ r 1 7 ∷ R 1 ∷ r 1 5 ∷ [])
 
 -- places for an order, enough for every session
 abbrev places : List ℕ
@@ -175,6 +189,17 @@ table =
     ∷ judged (two (W 5 ∷ R 1 ∷ w ∷ W 6 ∷ w ∷ W 5 ∷ r 1 5 ∷ R 2 ∷ r 2 6 ∷ [])) places 0 (4 ∷ []) (1 ∷ 2 ∷ 4 ∷ 8 ∷ 77 ∷ [])
     -- "Reads behind one write shall go by end row and no longer by begin row." (document 02, card 6): behind the start, and behind a write
     ∷ judged (two (R 1 ∷ R 2 ∷ r 2 7 ∷ r 1 7 ∷ W 5 ∷ R 1 ∷ R 2 ∷ r 2 5 ∷ r 1 5 ∷ [])) places 0 (5 ∷ []) (2 ∷ 1 ∷ 5 ∷ 7 ∷ 6 ∷ [])
+    -- "regular and no two reads are inverted against their writes" (document 02, card 9): a log that is regular but inverted,
+    ∷ tried regularButInverted ((4, 3) ∷ (6, 1) ∷ []) true false
+    ∷ judged regularButInverted places 12 (6 ∷ []) places
+    -- one where only the second of two equal readings will do,
+    ∷ tried secondOfTwo ((4, 3) ∷ (6, 1) ∷ []) true false
+    ∷ tried secondOfTwo ((4, 3) ∷ (6, 8) ∷ []) true true
+    ∷ judged secondOfTwo places 0 (5 ∷ []) (1 ∷ 3 ∷ 4 ∷ 8 ∷ 6 ∷ [])
+    -- and one where no choice of writes will do for both
+    ∷ tried twoChoices ((4, 3) ∷ (6, 1) ∷ []) true false
+    ∷ tried twoChoices ((4, 0) ∷ (6, 1) ∷ []) false true
+    ∷ judged twoChoices places 12 (6 ∷ []) places
     -- "Row 0 alone: empty order.", and the other refusals: no rows, two begins of one processor, a place short
     ∷ judged (two []) places 0 (0 ∷ []) places
     ∷ judged [] places 9 [] places
