@@ -5,7 +5,8 @@
 #include <stddef.h>
 #include <stdint.h>
 
-/* A log as bytes, eight a row, most significant first.
+/* A log as bytes, eight a row, most significant first. A read ends with its result (kind 4) or with a band (kind 6):
+   of the low 32 bits the upper half is the lowest that the reading may be, the lower half the highest.
    0: its operations have an order. Otherwise the number of the question that is answered no:
    9 the length (1 to 4,096 whole rows), 10 rows that are not well formed, 12 no order.
    It reads the bytes and nothing else, writes nothing, and always returns. */

@@ -1,7 +1,7 @@
 //! The judge of a log as bytes in plain Rust: 0, or 9, 10 or 12, as judge_bytes.
 
 /// One pass over the rows. It keeps the readings written so far and, of each open read, the place of the earliest write that it may
-/// stand behind; a read that ends takes the first write of its reading from there on.
+/// stand behind; a read that ends takes the first write of its reading, or of one in its band, from there on.
 #[inline(never)]
 pub fn judge(bytes: &[u8]) -> u32 {
     let count = bytes.len() / 8;
@@ -47,11 +47,11 @@ pub fn judge(bytes: &[u8]) -> u32 {
                 floor[p] = top;
                 open[p] = true;
             }
-            4 => {
-                if p == 0 || !open[p] {
+            4 | 6 => {
+                if p == 0 || !open[p] || !rising(row) {
                     return 10;
                 }
-                match written[floor[p]..].iter().position(|&w| w == reading(row)) {
+                match written[floor[p]..].iter().position(|&w| suits(row, w)) {
                     Some(i) => top = top.max(floor[p] + i),
                     None => ordered = false,
                 }
@@ -94,7 +94,7 @@ fn well_formed(rows: &[u64]) -> bool {
             1 => p == 0,
             2 => p == 0 && reading(row) == 0,
             3 => (1..=n).contains(&p) && reading(row) == 0,
-            4 => (1..=n).contains(&p),
+            4 | 6 => (1..=n).contains(&p) && rising(row),
             _ => false,
         };
         if !fields || zero_bits(row) != 0 || open[p] == begins(row) {
@@ -114,7 +114,7 @@ fn swept(rows: &[u64]) -> bool {
         let p = processor(row);
         match kind(row) {
             2 => top = top.max(begin[p]),
-            4 => match (floor[p]..k).find(|&q| is_source(rows, q, reading(row))) {
+            4 | 6 => match (floor[p]..k).find(|&q| is_source(rows, q, row)) {
                 Some(q) => top = top.max(q),
                 None => ordered = false,
             },
@@ -127,8 +127,18 @@ fn swept(rows: &[u64]) -> bool {
     ordered
 }
 
-fn is_source(rows: &[u64], q: usize, value: u32) -> bool {
-    (q == 0 || kind(rows[q]) == 1) && reading(rows[q]) == value
+fn is_source(rows: &[u64], q: usize, end: u64) -> bool {
+    (q == 0 || kind(rows[q]) == 1) && suits(end, reading(rows[q]))
+}
+
+/// Whether a read that this row ends may stand behind a write of v.
+pub fn suits(end: u64, v: u32) -> bool {
+    if kind(end) == 6 { reading(end) >> 16 <= v && v <= reading(end) & 0xffff } else { v == reading(end) }
+}
+
+/// Whether a band's lowest is not above its highest; a result has no such ends.
+fn rising(end: u64) -> bool {
+    kind(end) != 6 || reading(end) >> 16 <= reading(end) & 0xffff
 }
 
 fn begins(row: u64) -> bool {

@@ -138,7 +138,7 @@ fn compare() {
                 for _ in 0..random.below(3) {
                     if bytes.len() > 0 {
                         let at = random.below(bytes.len() as u64) as usize;
-                        bytes[at] = [0, 1, 2, 3, 7, 0x10, 0x30, 0x40][random.below(8) as usize];
+                        bytes[at] = [0, 1, 2, 3, 7, 0x10, 0x30, 0x40, 0x60][random.below(9) as usize];
                     }
                 }
                 if random.below(50) == 0 {

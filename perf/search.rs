@@ -1,6 +1,6 @@
 //! A general search for an order: Wing and Gong's, depth first over the operations that no other precedes, with memoized states.
 //! It knows of a register only what a write and a read do to a value.
-use crate::judge::{kind, processor, reading};
+use crate::judge::{kind, processor, reading, suits};
 use std::collections::HashSet;
 use std::time::{Duration, Instant};
 
@@ -18,7 +18,7 @@ struct Entry {
     end: usize, // of a begin: the entry of its end, or 0 if it has none
     begins: bool,
     writes: bool,
-    value: u32,
+    row: u64, // of a begin: a write's own row, a read's end row
     processor: usize,
 }
 
@@ -45,10 +45,12 @@ pub fn search(rows: &[u64], limit: Duration, room: usize) -> Found {
         }
         let e = &entries[at];
         if at != 0 && e.begins {
-            if e.writes || e.value == placed.1 {
+            if e.writes || suits(e.row, placed.1) {
                 let mut next = placed;
                 next.0[e.processor] += 1;
-                next.1 = e.value;
+                if e.writes {
+                    next.1 = reading(e.row);
+                }
                 if seen.insert(next) {
                     left -= (e.end != 0) as usize;
                     stack.push((at, placed.1));
@@ -76,7 +78,7 @@ pub fn search(rows: &[u64], limit: Duration, room: usize) -> Found {
 
 /// The entries of the ended operations and of an unended write; entry 0 is the list's head.
 fn entries_of(rows: &[u64]) -> Vec<Entry> {
-    let head = Entry { before: 0, after: 0, end: 0, begins: false, writes: false, value: 0, processor: 0 };
+    let head = Entry { before: 0, after: 0, end: 0, begins: false, writes: false, row: 0, processor: 0 };
     let mut end_row = vec![0; rows.len()];
     let mut open = [0; 17];
     for (k, &row) in rows.iter().enumerate().skip(1) {
@@ -94,8 +96,8 @@ fn entries_of(rows: &[u64]) -> Vec<Entry> {
             continue;
         }
         let here = entries.len();
-        let value = if kind(row) == 3 { reading(rows[end_row[k]]) } else { reading(row) };
-        entries.push(Entry { before: here - 1, after: 0, end: 0, begins, writes: kind(row) == 1, value, processor: p });
+        let told = if kind(row) == 3 { rows[end_row[k]] } else { row };
+        entries.push(Entry { before: here - 1, after: 0, end: 0, begins, writes: kind(row) == 1, row: told, processor: p });
         entries[here - 1].after = here;
         if begins {
             open[p] = here;

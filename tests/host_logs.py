@@ -5,7 +5,7 @@
 
 Writes COUNT log files to OUTDIR, the same at every run, and prints the model's number for each in sorted order.
 In turn: a register's log; one with a result replaced; a random well-formed log; a register's log with one bit of one
-row changed. Every eleventh loses some of its last bytes.
+row changed. In two of three, about half of the reads end with a band. Every eleventh loses some of its last bytes.
 """
 
 import sys
@@ -14,7 +14,7 @@ from pathlib import Path
 sys.dont_write_bytecode = True
 sys.path.insert(0, str(Path(__file__).resolve().parent.parent / 'tools'))
 
-from model import bytes_of, damaged, judge_bytes, random_log, register_log
+from model import banded, bytes_of, damaged, judge_bytes, random_log, register_log
 from verdict_logs import dice
 
 
@@ -33,6 +33,8 @@ def log(pick, k):
         rows = register_log(pick, n, pick(readings), length, readings, 1 + pick(9))
     if k % 4 == 1:
         rows = damaged(pick, rows, readings)
+    if k % 3:
+        rows = banded(pick, rows, 1 + pick(2))
     if k % 4 == 3:
         rows = changed(pick, rows)
     data = bytes_of(rows)

@@ -1,15 +1,22 @@
 #!/usr/bin/env python3
-"""A picture of the bench's print.
+"""A picture of a log and its order.
 
-    draw.py < PRINT > PICTURE.svg
+    draw.py < PRINT > PICTURE.svg       of the bench's print
+    draw.py LOG < LINE > PICTURE.svg    of a log as bytes, and verdict's line for it
 
 A lane for each processor, a bar for each operation from its begin row to its end row (to the right edge if it has none),
-its reading above the bar, and a dot at the instant that the order gives it. If there is no order, the offending read is red.
+its reading above the bar (a band as lowest..highest), and a dot at the instant that the order gives it. If there is no order,
+the offending read is red.
 """
 
 import sys
 from dataclasses import dataclass
 from html import escape
+from pathlib import Path
+
+sys.dont_write_bytecode = True
+
+from model import judge_bytes, listing, rows_of
 
 LANE, BAR, LEFT, TOP, STEP = 44, 20, 96, 40, 34  # pixels; STEP is the way from one row to the next
 
@@ -96,5 +103,24 @@ def picture(print_):
     return draw(*parse(print_.splitlines()))
 
 
+def listed(data):
+    """The listing of a log's bytes, as the bench lists its own log."""
+    answer = judge_bytes(data)
+    if answer in (('refused', 9), ('refused', 10)):
+        sys.exit(f'draw.py: this log is refused {answer[1]}')
+    return ''.join(line + '\n' for line in listing(rows_of(data)))
+
+
+def main(arguments):
+    """See the head of this file."""
+    if len(arguments) > 1:
+        sys.exit(__doc__)
+    try:
+        rows = listed(Path(arguments[0]).read_bytes()) if arguments else ''
+    except OSError as error:
+        sys.exit(f'draw.py: {arguments[0]}: {error.strerror}')
+    sys.stdout.write(picture(rows + sys.stdin.read()))
+
+
 if __name__ == '__main__':
-    sys.stdout.write(picture(sys.stdin.read()))
+    main(sys.argv[1:])

@@ -1,13 +1,14 @@
 #!/usr/bin/env python3
 """Outside model of the arrow register and its judge, written from document 01 alone, and from
-document 02 for the requests that have landed (card 6; card 9, with its report CS-R8704; card 4
-changes nothing that is told here).
+document 02 for the requests that have landed (card 6; card 9, with its report CS-R8704; card 13;
+card 4 changes nothing that is told here).
 
     model.py bench              text on standard input, the bench's print on standard output
     model.py verdict            one line for the log whose bytes are on standard input
     model.py verdict FILE...    one line for each log file
     model.py selftest           the sessions of document 01, brute force against the sweep, and
-                                the two definitions of card 9 on every log of a few rows
+                                the two definitions of card 9 on every log of a few rows, with
+                                the bands of card 13 and without
 
 The sections stand in the order of document 01, the buyer's scope. Quoted words are its
 own, or document 02's or the report's where that is said; “Open:” marks a choice where it
@@ -232,8 +233,15 @@ def unpack_row(word):
     return Row(word >> 60, word >> 52 & 0xFF, word >> 32 & 0xFFFFF, word & 0xFFFFFFFF)
 
 
+def band_of(row):
+    """Kind 6: “the low 32 bits are two 16-bit numbers, lowest (upper half) and highest” (02,
+    card 13)."""
+    return divmod(row.reading, 1 << 16)
+
+
 def listing(rows):
-    """“Row number, letter, reader for reads, reading for W and r”."""
+    """“Row number, letter, reader for reads, reading for W and r”. Open: a band is written
+    lowest..highest in a reading's place."""
     head = unpack_row(rows[0])
     yield f'readers {head.processor} start {head.reading}'
     for number, row in enumerate(map(unpack_row, rows[1:]), 1):
@@ -242,6 +250,7 @@ def listing(rows):
             2: f'{number} w',
             3: f'{number} R {row.processor}',
             4: f'{number} r {row.processor} {row.reading}',
+            6: f'{number} r {row.processor} {"..".join(map(str, band_of(row)))}',
         }[row.kind]
 
 
@@ -249,8 +258,27 @@ def listing(rows):
 # First by the definition, for small logs. Judgments are ('order', begin rows) or
 # ('refused', 12, row).
 
-# A write or a read with its begin row, its end row (None while unended) and its reading.
-Deed = namedtuple('Deed', 'is_write begin end reading')
+# A write or a read with its begin row, its end row (None while unended) and its readings: a
+# write's one, all that an ended read may have.
+Deed = namedtuple('Deed', 'is_write begin end readings')
+
+
+def readings_of(row):
+    """What the read ended by this row may have: its result; or any reading that “lies within
+    both, ends included” (02, card 13)."""
+    lowest, highest = (row.reading, row.reading) if row.kind == 4 else band_of(row)
+    return range(lowest, highest + 1)
+
+
+def has_reading(read, write):
+    """“Each read has the reading of the last write before it, or the start reading.” With a band
+    it “may stand behind any write, or the start, whose reading lies within both” (02, card 13)."""
+    return write.readings[0] in read.readings
+
+
+def start_of(rows):
+    """The start, counted as a write at row 0 that ends at once."""
+    return Deed(True, 0, 0, (unpack_row(rows[0]).reading,))
 
 
 def deeds_of(rows):
@@ -262,9 +290,9 @@ def deeds_of(rows):
         else:
             begin, reading = begun.pop(row.processor)
             is_write = row.kind == 2
-            deeds.append(Deed(is_write, begin, r, reading if is_write else row.reading))
+            deeds.append(Deed(is_write, begin, r, (reading,) if is_write else readings_of(row)))
     for processor, (begin, reading) in begun.items():
-        deeds.append(Deed(processor == 0, begin, None, reading))
+        deeds.append(Deed(processor == 0, begin, None, (reading,)))
     return sorted(deeds, key=lambda deed: deed.begin)
 
 
@@ -281,8 +309,8 @@ def is_order(sequence, start):
         if any(precedes(later, deed) for later in sequence[place + 1:]):
             return False
         if deed.is_write:
-            last = deed.reading
-        elif deed.reading != last:
+            last = deed
+        elif not has_reading(deed, last):
             return False
     return True
 
@@ -292,11 +320,10 @@ def arrangements(done, rest, last):
     if not rest:
         yield done
     for deed in rest:
-        fits = deed.is_write or deed.reading == last
+        fits = deed.is_write or has_reading(deed, last)
         if fits and not any(precedes(other, deed) for other in rest):
             left = [other for other in rest if other is not deed]
-            follow = deed.reading if deed.is_write else last
-            yield from arrangements(done + [deed], left, follow)
+            yield from arrangements(done + [deed], left, deed if deed.is_write else last)
 
 
 def orders(deeds, start):
@@ -354,7 +381,7 @@ def first_without_order(deeds, start):
 
 def brute(rows):
     """The judgment of a small well-formed log, literally by the definition."""
-    start, deeds = unpack_row(rows[0]).reading, deeds_of(rows)
+    start, deeds = start_of(rows), deeds_of(rows)
     earliest = earliest_writes(deeds, start)
     if earliest is None:
         return ('refused', 12, first_without_order(deeds, start))
@@ -367,8 +394,8 @@ def brute(rows):
 # The same judgment in one pass over the rows.
 #
 # There is one writer, so an order is a choice, for each ended read, of the write q that it
-# stands behind, named by its begin row (0: the start). Such a choice with equal readings
-# gives an order exactly if each q is
+# stands behind, named by its begin row (0: the start). Such a choice with readings that the
+# reads may have gives an order exactly if each q is
 #   - before the read's end row (else the read precedes that write),
 #   - not below the newest write that ended before the read's begin row (else that write
 #     precedes the read), and
@@ -386,14 +413,28 @@ def brute(rows):
 # exactly if none of them fails. The row of refusal 12 is thus the least begin row of a
 # failing read. (Whether a failing read raises F matters only to reads begun later.)
 
+def first_from(floor, places, row):
+    """The first write from the floor on that the read ended by this row may stand behind, or
+    None, where places has for each reading its writes, rising. What suits the read is told here
+    apart from readings_of, which brute force uses."""
+    if row.kind == 4:
+        lists = [places.get(row.reading, [])]
+    else:
+        lowest, highest = band_of(row)
+        lists = [writes for reading, writes in places.items() if lowest <= reading <= highest]
+    found = [writes[at] for writes in lists if (at := bisect_left(writes, floor)) < len(writes)]
+    return min(found, default=None)
+
+
 def sweep(rows):
     """The judgment of a well-formed log of any length."""
-    places = {unpack_row(rows[0]).reading: [0]}  # reading: its writes begun so far
+    places = {unpack_row(rows[0]).reading: [0]}  # reading: its writes begun so far, rising
     reads_behind = {0: []}  # write: the reads placed behind it, by end row
     newest = write = 0
     write_open = False
     floor, begin, failing = {}, {}, []
-    for r, (kind, p, _, reading) in enumerate(map(unpack_row, rows[1:]), 1):
+    for r, row in enumerate(map(unpack_row, rows[1:]), 1):
+        kind, p, _, reading = row
         if kind == 1:
             write, write_open = r, True
             places.setdefault(reading, []).append(r)
@@ -403,13 +444,12 @@ def sweep(rows):
         elif kind == 3:
             begin[p], floor[p] = r, newest
         else:
-            writes = places.get(reading, [])
-            at = bisect_left(writes, floor[p])
-            if at == len(writes):
+            first = first_from(floor[p], places, row)
+            if first is None:
                 failing.append(begin[p])
             else:
-                newest = max(newest, writes[at])
-                reads_behind[writes[at]].append(begin[p])
+                newest = max(newest, first)
+                reads_behind[first].append(begin[p])
     if failing:
         return ('refused', 12, min(failing))
     if write_open and not reads_behind[write]:
@@ -425,17 +465,18 @@ def sweep(rows):
 def writes_of(rows):
     """“the start counting as a write before all rows, an unended write as one that ends after
     them” (02, card 9)."""
-    start = Deed(True, 0, 0, unpack_row(rows[0]).reading)
     later = (deed for deed in deeds_of(rows) if deed.is_write)
-    return [start] + [deed._replace(end=len(rows)) if deed.end is None else deed for deed in later]
+    return [start_of(rows)] + [deed._replace(end=len(rows)) if deed.end is None else deed
+                               for deed in later]
 
 
 def choices(rows):
     """Every choice of a write for each read, “a read being free to stand for any write of equal
-    reading”, “unended reads left out” (02, card 9): lists of pairs."""
+    reading”, “unended reads left out” (02, card 9); with a band, of a reading within (card 13).
+    Lists of pairs."""
     reads = [deed for deed in deeds_of(rows) if not deed.is_write and deed.end is not None]
     writes = writes_of(rows)
-    return product(*([(read, write) for write in writes if write.reading == read.reading]
+    return product(*([(read, write) for write in writes if has_reading(read, write)]
                      for read in reads))
 
 
@@ -538,8 +579,11 @@ def row_0_well_formed(row):
 
 def later_row_well_formed(row, n):
     """“later rows kinds 1 to 4, zero bits and the readings of kinds 2 and 3 zero,
-    processor 0 for kinds 1 and 2, 1..n for 3 and 4”."""
-    if row.kind not in (1, 2, 3, 4) or row.zero != 0:
+    processor 0 for kinds 1 and 2, 1..n for 3 and 4”; “row kind 6, …, which question 10 takes
+    wherever it takes kind 4”, “Lowest above highest is malformed” (02, card 13)."""
+    if row.kind not in (1, 2, 3, 4, 6) or row.zero != 0:
+        return False
+    if row.kind == 6 and band_of(row)[0] > band_of(row)[1]:
         return False
     if row.kind in (2, 3) and row.reading != 0:
         return False
@@ -688,23 +732,42 @@ def equal(got, wanted, what):
     must(got == wanted, f'{what}: {str(got)[:200]!r}, wanted {str(wanted)[:200]!r}')
 
 
-def small_logs(n, readings, length):
-    """Every well-formed log of n readers, so many readings and so many rows, with start reading 0."""
+def pack_band(processor, lowest, highest):
+    """The row that ends a read with a band."""
+    return pack_row(6, processor, lowest << 16 | highest)
+
+
+def next_rows(p, is_open, readings, bands):
+    """The rows that p may add, with readings below a number; bands too, if they are wanted."""
+    if p == 0:
+        return [pack_row(2, 0, 0)] if is_open else [pack_row(1, 0, v) for v in range(readings)]
+    if not is_open:
+        return [pack_row(3, p, 0)]
+    return ([pack_row(4, p, v) for v in range(readings)]
+            + [pack_band(p, lowest, highest) for highest in range(readings if bands else 0)
+               for lowest in range(highest + 1)])
+
+
+def small_logs(n, readings, length, bands=False):
+    """Every well-formed log of n readers, so many readings and so many rows, with start reading 0;
+    those with bands too, if they are wanted."""
     logs = [([pack_row(5, n, 0)], frozenset())]
     for _ in range(length - 1):
-        logs = [(rows + [pack_row((1 if p == 0 else 3) + (p in busy), p, reading)], busy ^ {p})
-                for rows, busy in logs for p in range(n + 1)
-                for reading in (range(readings) if (p == 0) != (p in busy) else (0,))]
+        logs = [(rows + [row], busy ^ {p}) for rows, busy in logs for p in range(n + 1)
+                for row in next_rows(p, p in busy, readings, bands)]
     return [rows for rows, _ in logs]
 
 
 def log_of(n, start, text=''):
-    """A log from words like 'W 5, R 1, r 1 5, w'."""
+    """A log from words like 'W 5, R 1, r 1 5, R 1, r 1 4..6, w'."""
     rows = [pack_row(5, n, start)]
     for words in (part.split() for part in text.split(',') if part):
         kind = 'WwRr'.index(words[0]) + 1
         processor = int(words[1]) if kind >= 3 else 0
-        rows.append(pack_row(kind, processor, int(words[-1]) if kind in (1, 4) else 0))
+        if '..' in words[-1]:
+            rows.append(pack_band(processor, *map(int, words[-1].split('..'))))
+        else:
+            rows.append(pack_row(kind, processor, int(words[-1]) if kind in (1, 4) else 0))
     return rows
 
 
@@ -760,6 +823,18 @@ def damaged(pick, rows, readings):
     row = unpack_row(rows[r])
     reading = (row.reading + 1 + pick(readings)) % (readings + 1)
     return rows[:r] + [pack_row(row.kind, row.processor, reading)] + rows[r + 1:]
+
+
+def banded(pick, rows, width):
+    """A log in which about half of the read ends are bands that hold the result, and up to
+    width more on either side; those of results that need more than 16 bits stay."""
+    def ended(row):
+        if row.kind != 4 or row.reading >= 1 << 16 or pick(2) == 0:
+            return pack_row(row.kind, row.processor, row.reading)
+        return pack_band(row.processor, max(0, row.reading - pick(width + 1)),
+                         min(0xFFFF, row.reading + pick(width + 1)))
+
+    return [ended(row) for row in map(unpack_row, rows)]
 
 
 def steps(register, p, times):
@@ -918,6 +993,14 @@ JUDGE_SESSIONS = [
     # Card 6: reads behind the start, and behind a write, by end row; the row of 12 by begin row.
     (2, 7, 'R 1, R 2, r 2 7, r 1 7, W 5, R 1, R 2, r 2 5, r 1 5', 'order 2 1 5 7 6'),
     (2, 7, 'W 5, w, R 1, R 2, r 2 7, r 1 7', 'no order 3'),
+    # Card 13: a band met at either end, and missed by one; across writes the earliest; a reading
+    # of more than 16 bits in none.
+    (2, 7, 'R 1, W 5, w, W 6, w, r 1 5..6, R 2, r 2 4..6', 'order 2 1 4 7'),
+    (2, 7, 'R 1, r 1 7..7', 'order 1'),
+    (2, 7, 'R 1, r 1 8..9', 'no order 1'),
+    (2, 7, 'R 1, r 1 5..6', 'no order 1'),
+    (2, 7, 'W 65541, w, R 1, r 1 0..65535', 'no order 3'),
+    (2, 7, 'R 1, r 1 7, W 5, R 1, r 1 4..5, R 1, r 1 6..8', 'no order 6'),
 ]
 
 MALFORMED = [
@@ -928,6 +1011,9 @@ MALFORMED = [
     [0x5010000000000007, 0x3010000000000001], [0x5010000000000007, 0x2000000000000000],
     [0x5010000000000007, 0x1000000000000005, 0x2000000000000005],
     [0x5010000000000007, 0x1000000000000005, 0x1000000000000005],
+    [0x5010000000000007, 0x3010000000000000, 0x6010000000080007],
+    [0x5010000000000007, 0x6010000000070008], [0x5010000000000007, 0x7010000000000000],
+    [0x5010000000000007, 0x1000000000000005, 0x6000000000050008],
 ]
 
 
@@ -983,10 +1069,10 @@ def test_bench():
 
 
 def test_judges():
-    """Brute force against the sweep on small logs of every sort."""
+    """Brute force against the sweep on small logs of every sort, half of them with bands."""
     pick = random.Random(2).randrange
     tally = {'order': 0, 'refused': 0}
-    for trial in range(9000):
+    for trial in range(18000):
         n, readings = 1 + pick(4), 1 + pick(4)
         sort = trial % 3
         if sort == 0:
@@ -995,6 +1081,8 @@ def test_judges():
             rows = register_log(pick, n, pick(readings), 1 + pick(13), readings, 1 + pick(12))
         if sort == 2:
             rows = damaged(pick, rows, readings)
+        if trial % 2:
+            rows = banded(pick, rows, 2)
         name = bytes_of(rows).hex()
         must(well_formed(rows), 'well-formed log ' + name)
         answer = brute(rows)
@@ -1002,26 +1090,30 @@ def test_judges():
         equal(is_atomic(rows), answer[0] == 'order', 'atomic: ' + name)
         must(sort != 1 or answer[0] == 'order', 'order of the register\'s log ' + name)
         tally[answer[0]] += 1
-    must(min(tally.values()) > 1000, 'both judgments are common')
+    must(min(tally.values()) > 2000, 'both judgments are common')
     return tally
 
 
 def test_definitions():
     """Card 9 on every log of a few rows: atomic by CS-R8704 exactly if there is an order, and
     exactly if there is one that holds the unended write, too. With two choices of writes the
-    definitions would differ, but on no log of fewer than 8 rows."""
+    definitions would differ, but on no log of fewer than 8 rows. Card 13: the same with bands,
+    where brute force and the sweep agree, too."""
     tally = 0
-    for n, readings, most in ((1, 2, 8), (2, 2, 7), (2, 3, 6)):
+    for n, readings, most, bands in ((1, 2, 8, False), (2, 2, 7, False), (2, 3, 6, False),
+                                     (1, 3, 7, True), (2, 2, 6, True)):
         for length in range(1, most + 1):
             differing = 0
-            for rows in small_logs(n, readings, length):
+            for rows in small_logs(n, readings, length, bands):
                 name = bytes_of(rows).hex()
-                start, deeds = unpack_row(rows[0]).reading, deeds_of(rows)
+                start, deeds = start_of(rows), deeds_of(rows)
                 atomic = is_atomic(rows)
                 equal(next(orders(deeds, start), None) is not None, atomic, 'order of ' + name)
                 full = [deed for deed in deeds if deed.is_write or deed.end is not None]
                 equal(next(arrangements([], full, start), None) is not None, atomic,
                       'order with every write of ' + name)
+                if bands:
+                    equal(sweep(rows), brute(rows), 'sweep of ' + name)
                 differing += is_atomic_by_two_choices(rows) != atomic
                 tally += 1
             equal(differing, 6 if length == 8 else 0, f'two choices, {length} rows')

@@ -13,8 +13,8 @@ from pathlib import Path
 sys.dont_write_bytecode = True
 
 from bench_inputs import EXAMPLE, bench_inputs
-from draw import picture
-from model import bench
+from draw import listed, picture
+from model import bench, bytes_of, log_of
 from soak import soak_lines
 from trials_expected import trials_lines
 from verdict_logs import STANDARD_INPUT, expected, verdict_logs
@@ -40,13 +40,26 @@ def joining():
     yield from (('data/' + name, text) for name, text in inputs.items())
 
 
+# Logs with a band, for examples.
+SOUNDER_LOGS = {
+    'sounder': log_of(2, 7, 'W 12, R 1, r 1 12, R 2, r 2 10..15, w'),
+    'older': log_of(2, 7, 'W 12, R 1, r 1 12, R 2, r 2 5..9, w'),
+}
+
+
 def examples():
-    """The print of each example's input, and the picture of one."""
+    """The print of each example's input, and the picture of one; the logs that are examples, with verdict's line and a picture."""
     for path in sorted((ROOT / 'examples').glob('*.txt')):
         print_ = bench(path.read_bytes())
         yield path.stem + '.out', print_.encode()
         if path.stem == 'patroller':
             yield path.stem + '.svg', picture(print_).encode()
+    for name, rows in SOUNDER_LOGS.items():
+        data = bytes_of(rows)
+        line = expected(name, data) + '\n'
+        yield name + '.log', data
+        yield name + '.out', line.encode()
+        yield name + '.svg', picture(listed(data) + line).encode()
 
 
 def lines_of(lines):

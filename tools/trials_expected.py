@@ -10,6 +10,7 @@ from dataclasses import replace
 from model import (
     FIRST_STAMP, NO_STAMP, Range, Register, bytes_of, call_line, in_range, judge, judge_bytes,
     log_of, pack_row)
+from verdict_logs import OPEN_READ, OPEN_WRITE, START
 
 MARK = (1 << 64) - 1  # what buffers hold before anything is written to them
 
@@ -186,15 +187,13 @@ def lengths():
         yield f'bytes {len(data)}: {number(data)}'
 
 
-START, OPEN_WRITE, OPEN_READ = log_of(2, 7), log_of(2, 7, 'W 5'), log_of(2, 7, 'R 1')
-
 MALFORMED = [
     # Row 0: kind, readers, zero bits.
     [pack_row(1, 0, 7)], [pack_row(4, 2, 7)],
     log_of(0, 7), log_of(17, 7),
     [START[0] | 1 << 51], [START[0] | 1 << 32],
     # Kinds of later rows.
-    START + [0], START + START, START + [pack_row(6, 1, 0)], START + [pack_row(15, 1, 0)],
+    START + [0], START + START, OPEN_READ + [pack_row(7, 1, 7)], START + [pack_row(15, 1, 0)],
     # Zero bits of kinds 1 to 4.
     START + [pack_row(1, 0, 5) | 1 << 32], OPEN_WRITE + [pack_row(2, 0, 0) | 1 << 51],
     START + [pack_row(3, 1, 0) | 1 << 51], OPEN_READ + [pack_row(4, 1, 7) | 1 << 32],
@@ -204,6 +203,10 @@ MALFORMED = [
     START + [pack_row(1, 1, 5)], OPEN_READ + [pack_row(2, 1, 0)],
     START + [pack_row(3, 0, 0)], START + [pack_row(3, 3, 0)],
     OPEN_WRITE + [pack_row(4, 0, 5)], OPEN_READ + [pack_row(4, 3, 7)],
+    # Bands: as row 0, lowest above highest, zero bits, processors; an end first; two ends.
+    [pack_row(6, 2, 7)], log_of(2, 7, 'R 1, r 1 8..7'), OPEN_READ + [pack_row(6, 1, 7) | 1 << 32],
+    OPEN_WRITE + [pack_row(6, 0, 5)], OPEN_READ + [pack_row(6, 3, 7)],
+    log_of(2, 7, 'r 1 0..7'), log_of(2, 7, 'R 1, r 2 0..7'), log_of(2, 7, 'R 1, r 1 0..7, r 1 7'),
     # An end first; two begins; two ends.
     log_of(2, 7, 'w'), log_of(2, 7, 'r 1 7'), log_of(2, 7, 'R 1, r 2 7'),
     log_of(2, 7, 'W 5, W 5'), log_of(2, 7, 'R 1, R 1'),
@@ -223,6 +226,8 @@ ORDERS = [
     (16, 'W 5, R 1, r 1 7'),
     (16, 'R 1, R 2, W 5, r 2 5, r 1 7'),
     (16, 'R 1, R 2, r 2 7, r 1 7, W 5, R 1, R 2, r 2 5, r 1 5'),
+    (16, 'R 1, W 5, w, W 6, w, r 1 5..6, R 2, r 2 4..6'),
+    (16, 'R 2, r 2 4..6'),
 ]
 
 

@@ -3,7 +3,7 @@ use Prim.Native.Nat.{ℕ, suc, zero, _≤_, _<_, _+_, _*_}
 use native.Mathlib.Omega.{arith}
 use native.Mathlib.Nat.{mul-le-mul-right}
 use native.Mathlib.Decide.{ℕ-discrete, decLt}
-use mathlib.Core.Path.{_≡_, refl, _∙_, sym, ap}
+use mathlib.Core.Path.{_≡_, refl, _∙_, sym}
 use mathlib.Core.Bool.{Bool, true, false, _&&_, _||_}
 use mathlib.Core.Logic.{_⊎_, inl, inr}
 use mathlib.Core.List.{List, [], _∷_, _++_}
@@ -321,7 +321,7 @@ module _ (h : History) (L : Laws h) (m : ℕ) (p : ℕ → ℕ) (P : Placement h
     reads = has-read;
     once = once;
     respects = λ i j a b s t c. by-key i j a b s t (before a b (only i a s) (only j b t) c);
-    reading = λ i r s x. ap (h .value) (last-place i r s x) ∙ P .value r x;
+    reading = λ i r s x. rw (last-place i r s x) (P .suits r x);
   }
 
 pub build-needed : (h : History) (L : Laws h) (m : ℕ) (p : ℕ → ℕ) (n i x : ℕ) → Stands (build h m p n) i x → Write h x

@@ -4,43 +4,21 @@ use native.Mathlib.Omega.{arith}
 use native.Mathlib.Decide.{decLt}
 use mathlib.Core.Path.{_≡_}
 use mathlib.Core.Logic.{_⊎_, inl, inr}
-use mathlib.Core.Bool.{Bool, true, false, not, _&&_, _||_}
-use lib.Dec.{T, eqb, ltb, eqb→eq, ltb→lt, lt→ltb}
+use mathlib.Core.Bool.{Bool, true}
+use lib.Dec.{T}
 use Rattle.words.specs.Choice.{pick}
-use Rattle.words.proofs.Laws.Choice.{eq→T, and-T, T-left, T-right}
+use Rattle.words.proofs.Laws.Choice.{and-T}
 use Rattle.history.specs.WellFormed.{all}
 use Rattle.history.specs.History.{History, Read, Precedes}
 use Rattle.history.specs.ReadsFrom.{AnyWrite, ReadsFrom}
 use Rattle.history.specs.Regular.{Concurrent, LastBefore, Regular, Inverted}
 use Rattle.history.specs.Sweep.{isRead}
 use Rattle.history.specs.Chosen.{concurrent, lastBefore, readsFrom, regular, uninverted}
+use Rattle.history.proofs.Tests.{Tests, both, either, negated, implied, itself, equal, less, restated}
 use Rattle.history.proofs.Placement.{Laws}
 use Rattle.history.proofs.Operations.{all-at}
 use Rattle.history.proofs.Built.{read→, →read}
 use Rattle.history.proofs.Regular.{read-real}
-
--- the test b passes exactly if P
-pub record Tests (b : Bool) (P : Type 0) : Type 0 where
-  pub only-if : T b → P
-  pub if : P → T b
-
-both : {a b : Bool} {P Q : Type 0} → Tests a P → Tests b Q → Tests (a && b) (P × Q)
-both {a = a} {b = b} p q = record {
-  only-if = λ t. (p .only-if (T-left a b t), q .only-if (T-right a b t));
-  if = λ x. and-T a b (p .if (x .0)) (q .if (x .1));
-}
-
-either : {a b : Bool} {P Q : Type 0} → Tests a P → Tests b Q → Tests (a || b) (P ⊎ Q)
-either {a = true} p q = record { only-if = λ t. inl (p .only-if tt); if = λ x. tt }
-either {a = false} p q = record { only-if = λ t. inr (q .only-if t); if = λ x. elim x [ inl y ↦ absurd (p .if y) | inr y ↦ q .if y ] }
-
-negated : {a : Bool} {P : Type 0} → Tests a P → Tests (not a) (¬ P)
-negated {a = true} p = record { only-if = λ t. absurd t; if = λ n. n (p .only-if tt) }
-negated {a = false} p = record { only-if = λ t x. p .if x; if = λ n. tt }
-
-implied : {a b : Bool} {P Q : Type 0} → Tests a P → Tests b Q → Tests (pick a b true) (P → Q)
-implied {a = true} p q = record { only-if = λ t x. q .only-if t; if = λ f. q .if (f (p .only-if tt)) }
-implied {a = false} p q = record { only-if = λ t x. absurd (p .if x); if = λ f. tt }
 
 all-of : (f : ℕ → Bool) (n : ℕ) → ((k : ℕ) → 0 < k → k < n → T (f k)) → T (all f n)
 unfolding all
@@ -53,16 +31,6 @@ every f n p = record {
   only-if = λ t k a b. p k b .only-if (all-at f n k t a b);
   if = λ g. all-of f n (λ k a b. p k b .if (g k a b));
 }
-
-equal : (m n : ℕ) → Tests (eqb m n) (m ≡ n)
-equal m n = record { only-if = eqb→eq m n; if = eq→T m n }
-
-less : (m n : ℕ) → Tests (ltb m n) (m < n)
-less m n = record { only-if = ltb→lt m n; if = lt→ltb m n }
-
--- the same test of another statement
-restated : {b : Bool} {P Q : Type 0} → Tests b P → (P → Q) → (Q → P) → Tests b Q
-restated p f g = record { only-if = λ t. f (p .only-if t); if = λ x. p .if (g x) }
 
 module _ (h : History) (L : Laws h) where
   -- a test of every read
@@ -99,9 +67,9 @@ module _ (h : History) (L : Laws h) where
     pub tests-reads-from : Tests (readsFrom h f) (ReadsFrom h f)
     unfolding readsFrom
     tests-reads-from =
-        restated (of-reads _ (λ r. both (equal _ _) (equal _ _)))
-        (λ g. record { written = λ r x. g r x .0; value = λ r x. g r x .1 })
-        (λ R r x. (R .written r x, R .value r x))
+        restated (of-reads _ (λ r. both (equal _ _) (itself _)))
+        (λ g. record { written = λ r x. g r x .0; suits = λ r x. g r x .1 })
+        (λ R r x. (R .written r x, R .suits r x))
 
     pub tests-regular : Tests (regular h f) (Regular h f)
     unfolding regular

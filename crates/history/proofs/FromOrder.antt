@@ -63,7 +63,7 @@ module _ (h : History) (L : Laws h) (m : ℕ) (l : List ℕ) (O : Linearization 
   unfolding placeIn
   placed = record {
     source = λ r x. source _ (omega (arith, at r x));
-    value = λ r x. O .reading _ r (at r x) x;
+    suits = λ r x. O .reading _ r (at r x) x;
     early = λ r x. early _ r (at r x) x;
     late = λ w r e x a. late _ w r e (at r x) x a;
     mono = λ r s x y a. mono _ _ (O .respects _ _ r s (at r x) (at s y) a) (at s y .within);

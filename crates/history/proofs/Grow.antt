@@ -21,7 +21,7 @@ module _ (log : List ℕ) (x : ℕ) where
   pub grown-length : length (grown log x) ≡ suc (length log)
   grown-length = omega (arith, length-append log (x ∷ []))
 
-  grown-at : (k : ℕ) → k < length log → getD (grown log x) k 0 ≡ getD log k 0
+  pub grown-at : (k : ℕ) → k < length log → getD (grown log x) k 0 ≡ getD log k 0
   grown-at k a = List·getD-append log (x ∷ []) 0 k a
 
   pub grown-kind : (k : ℕ) → k < length log → kindAt (grown log x) k ≡ kindAt log k

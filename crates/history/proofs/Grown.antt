@@ -2,20 +2,21 @@
 use Prim.Native.Nat.{ℕ, suc, zero, _≤_, _<_, _-_}
 use native.Mathlib.Omega.{arith}
 use native.Mathlib.Decide.{ℕ-discrete, decLt}
-use mathlib.Core.Path.{_≡_, _∙_, sym, ap}
+use mathlib.Core.Path.{_≡_, _∙_, sym}
 use mathlib.Core.List.{List}
-use lib.ListN.{length}
-use Rattle.history.specs.History.{History, Read, endAt, historyOf}
+use lib.Dec.{T}
+use lib.ListN.{length, getD}
+use Rattle.history.specs.History.{History, Read, eventAt, endAt, historyOf}
 use Rattle.history.proofs.Placement.{Laws, Placement}
-use Rattle.history.specs.Rows.{processorAt, valueAt}
-use Rattle.history.proofs.Grow.{grown, grown-length, grown-kindOf, grown-val, grown-fin, ends-now, still-open}
+use Rattle.history.specs.Rows.{suits, processorAt, valueAt}
+use Rattle.history.proofs.Grow.{grown, grown-length, grown-at, grown-kindOf, grown-val, grown-fin, ends-now, still-open}
 
--- What the place q of a read asks that ends at the log's next row.
-pub record Fits (h : History) (p : ℕ → ℕ) (r v q : ℕ) : Type 0 where
-  pub source : h .kind q ≡ 1
-  pub value : h .value q ≡ v
-  pub late : (w : ℕ) → h .kind w ≡ 1 → h .end w < r → w ≤ q
-  pub mono : (s : ℕ) → Read h (h .len) s → h .end s < r → p s ≤ q
+-- What the place q of the read r asks, where the row x ends it behind the log.
+pub record Fits (log : List ℕ) (p : ℕ → ℕ) (r x q : ℕ) : Type 0 where
+  pub source : eventAt log q ≡ 1
+  pub suits : T (suits x (valueAt log q))
+  pub late : (w : ℕ) → eventAt log w ≡ 1 → endAt log w < r → w ≤ q
+  pub mono : (s : ℕ) → Read (historyOf log) (length log) s → endAt log s < r → p s ≤ q
 
 module _ (log : List ℕ) (x : ℕ) (L : Laws (historyOf log)) (M : Laws (historyOf (grown log x))) where
   abbrev h : History
@@ -45,16 +46,16 @@ module _ (log : List ℕ) (x : ℕ) (L : Laws (historyOf log)) (M : Laws (histor
       record { is = sym (grown-kindOf log x r c) ∙ y .is; ended = omega (arith, old-fin r c a); under = c }
 
   module _ (p : ℕ → ℕ) (P : Placement h n p)
-      (f : (r : ℕ) → Read g (g .len) r → endAt (grown log x) r ≡ n → Fits h p r (valueAt (grown log x) n) (p r)) where
+      (f : (r : ℕ) → Read g (g .len) r → endAt (grown log x) r ≡ n → Fits log p r (getD (grown log x) n 0) (p r)) where
     -- What holds of each ended read, old or new, in terms of the old log.
-    fits : (r : ℕ) → Read g (g .len) r → Fits h p r (valueAt (grown log x) (endAt (grown log x) r)) (p r) × (p r < endAt (grown log x) r) × (r < n)
+    fits : (r : ℕ) → Read g (g .len) r → Fits log p r (getD (grown log x) (endAt (grown log x) r) 0) (p r) × (p r < endAt (grown log x) r) × (r < n)
     fits r y = elim (decLt (endAt (grown log x) r) n) [
       | yes c ↦
           let z = old-read r y c in
           let e : endAt (grown log x) r ≡ endAt log r = old-fin r (z .under) c in (
             record {
               source = P .source r z;
-              value = P .value r z ∙ ap (valueAt log) (sym e) ∙ sym (grown-val log x _ c);
+              suits = rw (grown-at log x _ c, e) (P .suits r z);
               late = λ w k a. P .late w r k z a;
               mono = λ s t a. P .mono s r t z a;
             },
@@ -70,7 +71,7 @@ module _ (log : List ℕ) (x : ℕ) (L : Laws (historyOf log)) (M : Laws (histor
     pub grown-placement : Placement g (g .len) p
     grown-placement = record {
       source = λ r y. let z = fits r y in grown-kindOf log x (p r) (L .write (p r) (z .0 .source)) ∙ z .0 .source;
-      value = λ r y. let z = fits r y in grown-val log x (p r) (L .write (p r) (z .0 .source)) ∙ z .0 .value;
+      suits = λ r y. let z = fits r y in rw (grown-val log x (p r) (L .write (p r) (z .0 .source))) (z .0 .suits);
       early = λ r y. fits r y .1;
       late = λ w r e y a.
           let z = fits r y in

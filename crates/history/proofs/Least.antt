@@ -5,18 +5,18 @@ use native.Mathlib.Decide.{ℕ-discrete, decLt}
 use mathlib.Core.Path.{_≡_, _∙_, ap}
 use lib.Dec.{T, eqb, eqb→eq}
 use Rattle.words.proofs.Laws.Choice.{pick-T, eq→T, and-T, T-left, T-right}
-use Rattle.history.specs.History.{History, Read}
+use Rattle.history.specs.History.{History, Read, Suits}
 use Rattle.history.proofs.Placement.{Laws, Placement}
 use Rattle.history.proofs.Search.{first-ge, first-passes, first-least}
 use Rattle.history.specs.Sweep.{floors, isSource, placeAt, adds, floor, place}
 use Rattle.history.proofs.Floors.{floor-suc}
 
 -- What the test of a source says.
-good→ : (h : History) (v q : ℕ) → T (isSource h v q) → (h .kind q ≡ 1) × (h .value q ≡ v)
-good→ h v q t = (eqb→eq _ _ (T-left (eqb (h .kind q) 1) _ t), eqb→eq _ _ (T-right (eqb (h .kind q) 1) _ t))
+good→ : (h : History) (e q : ℕ) → T (isSource h e q) → (h .kind q ≡ 1) × T (h .suits e q)
+good→ h e q t = (eqb→eq _ _ (T-left (eqb (h .kind q) 1) _ t), T-right (eqb (h .kind q) 1) _ t)
 
-→good : (h : History) (v q : ℕ) → h .kind q ≡ 1 → h .value q ≡ v → T (isSource h v q)
-→good h v q a b = and-T (eqb (h .kind q) 1) _ (eq→T _ _ a) (eq→T _ _ b)
+→good : (h : History) (e q : ℕ) → h .kind q ≡ 1 → T (h .suits e q) → T (isSource h e q)
+→good h e q a b = and-T (eqb (h .kind q) 1) _ (eq→T _ _ a) b
 
 -- What a row adds.
 adds-le : (h : History) (f k B : ℕ) → (h .kind k ≡ 2 → h .begin k ≤ B) → (h .kind k ≡ 4 → placeAt h f (h .begin k) ≤ B) → adds h f k ≤ B
@@ -52,11 +52,11 @@ module _ (h : History) (L : Laws h) where
   unfolding place placeAt
   place-ge r = first-ge (isSource h _) _ _
 
-  place-good : (r : ℕ) → place h r < h .end r → T (isSource h (h .value (h .end r)) (place h r))
+  place-good : (r : ℕ) → place h r < h .end r → T (isSource h (h .end r) (place h r))
   unfolding place placeAt
-  place-good r l = first-passes (isSource h _) _ _ (omega (arith, first-ge (isSource h (h .value (h .end r))) (floor h r) (h .end r - floor h r)))
+  place-good r l = first-passes (isSource h _) _ _ (omega (arith, first-ge (isSource h (h .end r)) (floor h r) (h .end r - floor h r)))
 
-  place-least : (r q : ℕ) → floor h r ≤ q → q < h .end r → h .kind q ≡ 1 → h .value q ≡ h .value (h .end r) → place h r ≤ q
+  place-least : (r q : ℕ) → floor h r ≤ q → q < h .end r → h .kind q ≡ 1 → Suits h q r → place h r ≤ q
   unfolding place placeAt
   place-least r q a b k v = first-least (isSource h _) _ _ q a (omega arith) (→good h _ q k v)
 
@@ -85,7 +85,7 @@ module _ (h : History) (L : Laws h) where
   pub sound : (m : ℕ) → Found m → Placement h m (place h)
   sound m f = record {
     source = λ r x. good→ h _ _ (place-good r (f r x)) .0;
-    value = λ r x. good→ h _ _ (place-good r (f r x)) .1;
+    suits = λ r x. good→ h _ _ (place-good r (f r x)) .1;
     early = f;
     late = λ w r e x a. omega (arith, floor-write w r e a (omega (arith, L .read-end r (x .is))), place-ge r);
     mono = λ r s x y a. omega (arith, floor-read r s (x .is) a (omega (arith, L .read-end s (y .is))), place-ge s);
@@ -103,7 +103,7 @@ module _ (h : History) (L : Laws h) where
     least-under : (n r : ℕ) → r < n → Read h m r → place h r ≤ p r
     least-under zero r a x = absurd (omega arith)
     least-under (suc n) r a x =
-        place-least r (p r) (floor-below r x (λ s b y. least-under n s (omega arith) y)) (P .early r x) (P .source r x) (P .value r x)
+        place-least r (p r) (floor-below r x (λ s b y. least-under n s (omega arith) y)) (P .early r x) (P .source r x) (P .suits r x)
 
     pub least : (r : ℕ) → Read h m r → place h r ≤ p r
     least r = least-under (suc r) r (omega arith)

@@ -1,4 +1,6 @@
+pub mod Tests
 pub mod Search
+pub mod Bands
 pub mod Placement
 pub mod Floors
 pub mod Least
@@ -16,6 +18,7 @@ pub mod Grown
 pub mod Unique
 pub mod EarliestLaws
 pub mod Swept
+pub mod NoBands
 pub mod Instants
 pub mod Regular
 pub mod Shrinking

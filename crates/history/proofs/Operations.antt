@@ -10,7 +10,7 @@ use lib.Dec.{T, T-not, eqb, leb, eqb→eq, leb→le, ltb→lt}
 use lib.ListN.{getD}
 use Rattle.words.specs.Choice.{pick}
 use Rattle.words.proofs.Laws.Choice.{pick-T, eq→T, T-left, T-right, T→true, not→false}
-use Rattle.history.specs.Rows.{kindAt, processorAt, zeroAt, valueAt, beginsAt, begins}
+use Rattle.history.specs.Rows.{kindTold, kindOf, kindAt, processorAt, zeroAt, valueAt, beginsAt, begins}
 use Rattle.history.specs.WellFormed.{openAt, isReader, fields, fieldsOk, alternates, rowOk, all}
 
 -- What a well-formed row says.
@@ -32,7 +32,7 @@ end-T : (log : List ℕ) (k : ℕ) → (kindAt log k ≡ 2) ⊎ (kindAt log k �
 end-T log k (inl e) = rw e tt
 end-T log k (inr e) = rw e tt
 
--- What the fields say.
+-- What the fields say, by the kind that they tell.
 pub record Fields (k p z v n : ℕ) : Type 0 where
   pub low : 1 ≤ k
   pub high : k ≤ 4
@@ -41,37 +41,38 @@ pub record Fields (k p z v n : ℕ) : Type 0 where
   pub writer : k ≤ 2 → p ≡ 0
   pub reader : 3 ≤ k → (1 ≤ p) × (p ≤ n)
 
-pub fields→ : (k p z v n : ℕ) → T (fields k p z v n) → Fields k p z v n
+reader→ : (p n : ℕ) → T (isReader p n) → (1 ≤ p) × (p ≤ n)
+reader→ p n t = (leb→le 1 p (T-left (leb 1 p) _ t), leb→le p n (T-right (leb 1 p) _ t))
+
+end-fields : (p z v n : ℕ) → z ≡ 0 → T (isReader p n) → Fields 4 p z v n
+end-fields p z v n c t = record {
+  low = omega arith;
+  high = omega arith;
+  clear = c;
+  silent = λ x y. absurd (omega arith);
+  writer = λ x. absurd (omega arith);
+  reader = λ _. reader→ p n t;
+}
+
+pub fields→ : (k p z v n : ℕ) → T (fields k p z v n) → Fields (kindTold k) p z v n
 unfolding fields
 fields→ k p z v n t =
+    let Says : Bool → Type 0 = λ b. T b → Fields (kindTold k) p z v n in
     let c : z ≡ 0 = eqb→eq z 0 (T-left (eqb z 0) _ t) in
-    pick-T (λ b. T b → Fields k p z v n) (eqb k 1)
-    (λ e u. let a = eqb→eq k 1 e in let d = eqb→eq p 0 u in
-    record { low = omega arith; high = omega arith; clear = c; silent = λ x y. absurd (omega arith); writer = λ _. d; reader = λ x. absurd (omega arith) })
-    (λ _. pick-T (λ b. T b → Fields k p z v n) (eqb k 2)
-    (λ e u. let a = eqb→eq k 2 e in let d = eqb→eq v 0 (T-left (eqb v 0) _ u) in let f = eqb→eq p 0 (T-right (eqb v 0) _ u) in
-    record { low = omega arith; high = omega arith; clear = c; silent = λ _ _. d; writer = λ _. f; reader = λ x. absurd (omega arith) })
-    (λ _. pick-T (λ b. T b → Fields k p z v n) (eqb k 3)
-    (λ e u. let a = eqb→eq k 3 e in let d = eqb→eq v 0 (T-left (eqb v 0) _ u) in let f : T (isReader p n) = T-right (eqb v 0) _ u in
-    record {
-      low = omega arith;
-      high = omega arith;
-      clear = c;
-      silent = λ _ _. d;
-      writer = λ x. absurd (omega arith);
-      reader = λ _. (leb→le 1 p (T-left (leb 1 p) _ f), leb→le p n (T-right (leb 1 p) _ f));
-    })
-    (λ _. pick-T (λ b. T b → Fields k p z v n) (eqb k 4)
-    (λ e f. let a = eqb→eq k 4 e in
-    record {
-      low = omega arith;
-      high = omega arith;
-      clear = c;
-      silent = λ x y. absurd (omega arith);
-      writer = λ x. absurd (omega arith);
-      reader = λ _. (leb→le 1 p (T-left (leb 1 p) _ f), leb→le p n (T-right (leb 1 p) _ f));
-    })
-    (λ _ u. absurd u))))
+    pick-T Says (eqb k 1)
+    (λ e u. let d = eqb→eq p 0 u in rw (eqb→eq k 1 e)
+    (record { low = omega arith; high = omega arith; clear = c; silent = λ x y. absurd (omega arith); writer = λ _. d; reader = λ x. absurd (omega arith) }))
+    (λ _. pick-T Says (eqb k 2)
+    (λ e u. let d = eqb→eq v 0 (T-left (eqb v 0) _ u) in let f = eqb→eq p 0 (T-right (eqb v 0) _ u) in rw (eqb→eq k 2 e)
+    (record { low = omega arith; high = omega arith; clear = c; silent = λ _ _. d; writer = λ _. f; reader = λ x. absurd (omega arith) }))
+    (λ _. pick-T Says (eqb k 3)
+    (λ e u. let d = eqb→eq v 0 (T-left (eqb v 0) _ u) in let f : T (isReader p n) = T-right (eqb v 0) _ u in rw (eqb→eq k 3 e)
+    (record { low = omega arith; high = omega arith; clear = c; silent = λ _ _. d; writer = λ x. absurd (omega arith); reader = λ _. reader→ p n f }))
+    (λ _. pick-T Says (eqb k 4)
+    (λ e u. rw (eqb→eq k 4 e) (end-fields p z v n c u))
+    (λ _. pick-T Says (eqb k 6)
+    (λ e u. rw (eqb→eq k 6 e) (end-fields p z v n c (T-left (isReader p n) _ u)))
+    (λ _ u. absurd u)))))
     (T-right (eqb z 0) _ t)
 
 -- The test of a begin.
@@ -88,7 +89,7 @@ unfolding alternates
 alternates-end x o = pick-T (λ b. T b → T (not (begins x)) → 0 < o) (begins x) (λ b _ n. absurd (T-not (begins x) n b)) (λ _ t _. ltb→lt 0 o t)
 
 pub row→ : (log : List ℕ) (k : ℕ) → T (rowOk log k) → RowOk log k
-unfolding rowOk kindAt processorAt zeroAt valueAt
+unfolding rowOk kindAt kindOf processorAt zeroAt valueAt
 row→ log k t =
     let f = fields→ _ _ _ _ _ (T-left (fieldsOk (getD log k 0) (processorAt log 0)) _ t) in
     let u : T (alternates (getD log k 0) (openAt log (processorAt log k) k)) = T-right (fieldsOk (getD log k 0) (processorAt log 0)) _ t in

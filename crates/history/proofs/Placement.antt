@@ -1,7 +1,7 @@
 -- What a well-formed log's history meets, and placements: an order seen from its reads.
 use Prim.Native.Nat.{ℕ, zero, _≤_, _<_}
 use mathlib.Core.Path.{_≡_}
-use Rattle.history.specs.History.{History, Read}
+use Rattle.history.specs.History.{History, Read, Suits}
 
 -- What every well-formed log's history meets.
 pub record Laws (h : History) : Type 0 where
@@ -20,7 +20,7 @@ pub record Laws (h : History) : Type 0 where
 -- A place for each ended read begun before row m: the write, or row 0, that it stands behind.
 pub record Placement (h : History) (m : ℕ) (p : ℕ → ℕ) : Type 0 where
   pub source : (r : ℕ) → Read h m r → h .kind (p r) ≡ 1
-  pub value : (r : ℕ) → Read h m r → h .value (p r) ≡ h .value (h .end r)
+  pub suits : (r : ℕ) → Read h m r → Suits h (p r) r
   pub early : (r : ℕ) → Read h m r → p r < h .end r
   pub late : (w r : ℕ) → h .kind w ≡ 1 → Read h m r → h .end w < r → w ≤ p r
   pub mono : (r s : ℕ) → Read h m r → Read h m s → h .end r < s → p r ≤ p s

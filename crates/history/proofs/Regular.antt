@@ -70,7 +70,7 @@ module _ (h : History) (L : Laws h) where
     pub atomic-placed : Placement h (h .len) f
     atomic-placed = record {
       source = written;
-      value = A .regular .from .value;
+      suits = A .regular .from .suits;
       early = λ r x. early r x (A .regular .near r x);
       late = λ w r e x a. late w r e x a (A .regular .near r x);
       mono = mono;
@@ -85,6 +85,6 @@ module _ (h : History) (L : Laws h) where
 
     pub placed-atomic : Atomic h p
     placed-atomic = record {
-      regular = record { from = record { written = P .source; value = P .value }; near = near };
+      regular = record { from = record { written = P .source; suits = P .suits }; near = near };
       no-inversion = λ r s x y i. omega (arith, P .mono r s x y (i .reads), i .writes, spans (p s) (inl (P .source s y)));
     }

@@ -73,7 +73,7 @@ module _ (h : History) (L : Laws h) (S : AtomicRun h) where
   pub run-placed : Placement h (h .len) (S .π)
   run-placed = record {
     source = S .reads .written;
-    value = S .reads .value;
+    suits = S .reads .suits;
     early = early;
     late = λ w r e x a. late w r e x (finishes-first w r (inl e) (inr x) a);
     mono = λ r s x y a.
@@ -242,7 +242,7 @@ module _ (h : History) (L : Laws h) (l : List ℕ) (F : FullOrder h l) where
   pub shrunk : AtomicRun h
   shrunk = record {
     π = from;
-    reads = record { written = P .source; value = P .value };
+    reads = record { written = P .source; suits = P .suits };
     unit = unit l + unit l;
     newStart = startOf;
     newFinish = finishOf;

@@ -13,10 +13,11 @@ use borrow.Author.Tests.{eq-eqb, ne-eqb}
 use Rattle.words.specs.Choice.{pick}
 use Rattle.words.specs.Update.{upd}
 use Rattle.words.proofs.Laws.Update.{upd-same, upd-other}
-use Rattle.history.specs.Rows.{kindOf, processorOf, valueOf, kindAt, processorAt, valueAt, beginsAt}
+use Rattle.history.specs.Rows.{kindBits, processorOf, valueOf, kindAt, processorAt, valueAt, beginsAt}
 use Rattle.history.specs.WellFormed.{openAt, wellFormed}
 use Rattle.history.specs.History.{History, eventAt, endAt, historyOf, Read}
 use Rattle.history.specs.Swept.{Source, Swept, starts, write-begins, write-ends, read-begins, read-ends}
+use Rattle.history.proofs.Bands.{kind-plain, tests-result}
 use Rattle.history.proofs.Placement.{Laws, Placement}
 use Rattle.history.proofs.Operations.{open-suc, open-le, open→}
 use Rattle.history.proofs.WellFormed.{nonempty, laws, kind-is}
@@ -39,7 +40,7 @@ record Inv (log : List ℕ) (F : ℕ) (fl : ℕ → ℕ) (wr : ℕ) (p : ℕ →
 same-places : (h : History) (m : ℕ) (p q : ℕ → ℕ) → ((r : ℕ) → Read h m r → q r ≡ p r) → Placement h m p → Placement h m q
 same-places h m p q e P = record {
   source = λ r x. ap (h .kind) (e r x) ∙ P .source r x;
-  value = λ r x. ap (h .value) (e r x) ∙ P .value r x;
+  suits = λ r x. rw (e r x) (P .suits r x);
   early = λ r x. omega (arith, e r x, P .early r x);
   late = λ w r k x a. omega (arith, e r x, P .late w r k x a);
   mono = λ r s x y a. omega (arith, e r x, e s y, P .mono r s x y a);
@@ -94,7 +95,7 @@ module _ (log : List ℕ) (x : ℕ) (ok : T (wellFormed log)) (ok′ : T (wellFo
   -- What the new row asks of the next floors and placement.
   module _ (F : ℕ) (fl : ℕ → ℕ) (wr : ℕ) (p : ℕ → ℕ) (I : Inv log F fl wr p) (F′ : ℕ) (fl′ : ℕ → ℕ) (wr′ : ℕ) (p′ : ℕ → ℕ)
       (agree : (r : ℕ) → Read (historyOf log) n r → p′ r ≡ p r)
-      (new-read : (r : ℕ) → Read (historyOf log′) (length log′) r → endAt log′ r ≡ n → Fits (historyOf log) p′ r (valueAt log′ n) (p′ r) × (p′ r ≤ F′))
+      (new-read : (r : ℕ) → Read (historyOf log′) (length log′) r → endAt log′ r ≡ n → Fits log p′ r (getD log′ n 0) (p′ r) × (p′ r ≤ F′))
       (up : F ≤ F′) (wr-in′ : wr′ ≤ n) (wr-up : wr ≤ wr′) (wr-new : k ≡ 1 → n ≤ wr′) (wr-F : k ≡ 2 → wr ≤ F′)
       (same-floor : (i : ℕ) → j ≢ suc i → fl′ i ≡ fl i)
       (mine : (i : ℕ) → j ≡ suc i → 0 < openAt log′ (suc i) (length log′) → (openAt log′ (suc i) (length log′) ≡ n) × (F ≤ fl′ i)) where
@@ -131,7 +132,7 @@ module _ (log : List ℕ) (x : ℕ) (ok : T (wellFormed log)) (ok′ : T (wellFo
     }
 
   abbrev Fill : ℕ → (ℕ → ℕ) → Type 0
-  Fill F′ p′ = (r : ℕ) → Read (historyOf log′) (length log′) r → endAt log′ r ≡ n → Fits (historyOf log) p′ r (valueAt log′ n) (p′ r) × (p′ r ≤ F′)
+  Fill F′ p′ = (r : ℕ) → Read (historyOf log′) (length log′) r → endAt log′ r ≡ n → Fits log p′ r (getD log′ n 0) (p′ r) × (p′ r ≤ F′)
 
   no-read : k ≢ 4 → (F′ : ℕ) (p′ : ℕ → ℕ) → Fill F′ p′
   no-read h F′ p′ r y e = absurd (h (ends-read r (y .is) e .0))
@@ -146,17 +147,13 @@ open-fin log j a =
 new-word : (log : List ℕ) (x : ℕ) → getD (grown log x) (length log) 0 ≡ x
 new-word log x = getD-append-seam log x [] 0
 
-new-kind-is : (log : List ℕ) (x k : ℕ) → kindOf x ≡ k → kindAt (grown log x) (length log) ≡ k
+new-kind-is : (log : List ℕ) (x k : ℕ) → kindBits x ≡ k → k < 6 → kindAt (grown log x) (length log) ≡ k
 unfolding kindAt
-new-kind-is log x k e = rw (new-word log x) e
+new-kind-is log x k e a = rw (new-word log x) (kind-plain x k e a)
 
 new-processor-is : (log : List ℕ) (x j : ℕ) → processorOf x ≡ j → processorAt (grown log x) (length log) ≡ j
 unfolding processorAt
 new-processor-is log x j e = rw (new-word log x) e
-
-new-value-is : (log : List ℕ) (x : ℕ) → valueAt (grown log x) (length log) ≡ valueOf x
-unfolding valueAt
-new-value-is log x = rw (new-word log x)
 
 -- The start row alone.
 module _ (x : ℕ) (fl : ℕ → ℕ) (ok : T (wellFormed (x ∷ []))) where
@@ -176,7 +173,7 @@ module _ (x : ℕ) (fl : ℕ → ℕ) (ok : T (wellFormed (x ∷ []))) where
   start-inv = record {
     placed = record {
       source = λ r y. absurd (no-ended _ r y);
-      value = λ r y. absurd (no-ended _ r y);
+      suits = λ r y. absurd (no-ended _ r y);
       early = λ r y. absurd (no-ended _ r y);
       late = λ w r e y _. absurd (no-ended _ r y);
       mono = λ r s y _ _. absurd (no-ended _ r y);
@@ -196,25 +193,25 @@ begin-is false m h = absurd (omega arith)
 -- One row more, by its kind.
 module _ (log : List ℕ) (ok : T (wellFormed log)) (F : ℕ) (fl : ℕ → ℕ) (wr : ℕ) (p : ℕ → ℕ) (I : Inv log F fl wr p) (x : ℕ)
     (ok′ : T (wellFormed (grown log x))) where
-  inv-write-begins : kindOf x ≡ 1 → processorOf x ≡ 0 → Inv (grown log x) F fl (length log) p
+  inv-write-begins : kindBits x ≡ 1 → processorOf x ≡ 0 → Inv (grown log x) F fl (length log) p
   inv-write-begins e o =
-      let kd = new-kind-is log x 1 e in
+      let kd = new-kind-is log x 1 e (omega arith) in
       let pr = new-processor-is log x 0 o in
       grows log x ok ok′ 1 0 kd pr F fl wr p I F fl (length log) p
       (λ _ _. refl) (no-read log x ok ok′ 1 0 kd pr (omega arith) F p) (omega arith) (omega arith) (omega (arith, I .wr-in)) (λ _. omega arith)
       (λ e. absurd (omega arith)) (λ _ _. refl) (λ i e. absurd (omega arith))
 
-  inv-write-ends : kindOf x ≡ 2 → processorOf x ≡ 0 → Inv (grown log x) (max F wr) fl wr p
+  inv-write-ends : kindBits x ≡ 2 → processorOf x ≡ 0 → Inv (grown log x) (max F wr) fl wr p
   inv-write-ends e o =
-      let kd = new-kind-is log x 2 e in
+      let kd = new-kind-is log x 2 e (omega arith) in
       let pr = new-processor-is log x 0 o in
       grows log x ok ok′ 2 0 kd pr F fl wr p I (max F wr) fl wr p
       (λ _ _. refl) (no-read log x ok ok′ 2 0 kd pr (omega arith) (max F wr) p) (omega arith) (omega (arith, I .wr-in)) (omega arith)
       (λ e. absurd (omega arith)) (λ _. omega arith) (λ _ _. refl) (λ i e. absurd (omega arith))
 
-  inv-read-begins : (i : ℕ) → kindOf x ≡ 3 → processorOf x ≡ suc i → Inv (grown log x) F (upd fl i F) wr p
+  inv-read-begins : (i : ℕ) → kindBits x ≡ 3 → processorOf x ≡ suc i → Inv (grown log x) F (upd fl i F) wr p
   inv-read-begins i e o =
-      let kd = new-kind-is log x 3 e in
+      let kd = new-kind-is log x 3 e (omega arith) in
       let pr = new-processor-is log x (suc i) o in
       grows log x ok ok′ 3 (suc i) kd pr F fl wr p I F (upd fl i F) wr p
       (λ _ _. refl) (no-read log x ok ok′ 3 (suc i) kd pr (omega arith) F p) (omega arith) (omega (arith, I .wr-in)) (omega arith)
@@ -228,15 +225,15 @@ module _ (log : List ℕ) (ok : T (wellFormed log)) (F : ℕ) (fl : ℕ → ℕ)
       zi : (z : ℕ) → suc i ≡ suc z → i ≡ z
       zi z e = omega arith
 
-  inv-read-ends : (i q : ℕ) → kindOf x ≡ 4 → processorOf x ≡ suc i → Source log q (valueOf x) → fl i ≤ q
+  inv-read-ends : (i q : ℕ) → kindBits x ≡ 4 → processorOf x ≡ suc i → Source log q (valueOf x) → fl i ≤ q
       → Inv (grown log x) (max F q) fl wr (upd p (openAt log (suc i) (length log)) q)
-  inv-read-ends i q e o S h =
+  inv-read-ends i q exact o S h =
       grows log x ok ok′ 4 (suc i) kd pr F fl wr p I (max F q) fl wr p′ agree ends (omega arith) (omega (arith, I .wr-in)) (omega arith)
       (λ e. absurd (omega arith)) (λ e. absurd (omega arith)) (λ _ _. refl)
       (λ z e a. absurd (omega (arith, new-open log x ok ok′ 4 (suc i) kd pr (suc z) ∙ closed z e)))
     where
       kd : kindAt (grown log x) (length log) ≡ 4
-      kd = new-kind-is log x 4 e
+      kd = new-kind-is log x 4 exact (omega arith)
 
       pr : processorAt (grown log x) (length log) ≡ suc i
       pr = new-processor-is log x (suc i) o
@@ -265,7 +262,7 @@ module _ (log : List ℕ) (ok : T (wellFormed log)) (F : ℕ) (fl : ℕ → ℕ)
           let pos : 0 < openAt log (suc i) (length log) = real (openAt log (suc i) (length log)) (sym (t .1)) y in (
             record {
               source = ap (eventAt log) g ∙ S .is;
-              value = ap (valueAt log) g ∙ S .shows ∙ sym (new-value-is log x);
+              suits = rw (new-word log x, g) (tests-result x (valueAt log q) exact .if (S .shows));
               late = λ w k a. omega (arith, g, I .fl-write i w pos k (omega (arith, t .1)));
               mono = λ u z a. omega (arith, g, agree u z, I .fl-read i u pos z (omega (arith, t .1)));
             },
@@ -279,7 +276,7 @@ module _ (log : List ℕ) (ok : T (wellFormed log)) (F : ℕ) (fl : ℕ → ℕ)
                 absurd (omega (arith, laws (grown log x) ok′ .start, y .is, ap (eventAt (grown log x)) z))
           ]
 
-swept-some : {log : List ℕ} {F : ℕ} {fl : ℕ → ℕ} {w : ℕ} → Swept log F fl w → 0 < length log
+pub swept-some : {log : List ℕ} {F : ℕ} {fl : ℕ → ℕ} {w : ℕ} → Swept log F fl w → 0 < length log
 swept-some (starts x fl) = omega arith
 swept-some (write-begins x e o s) = rw length-append (omega arith)
 swept-some (write-ends x e o s) = rw length-append (omega arith)

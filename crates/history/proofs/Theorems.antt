@@ -7,7 +7,8 @@ use native.Mathlib.Omega.{arith}
 use lib.Dec.{T}
 use lib.ListN.{length}
 use Rattle.history.specs.WellFormed.{wellFormed}
-use Rattle.history.specs.History.{History, historyOf, Precedes}
+use Rattle.history.specs.History.{History, historyOf, Read, Precedes}
+use Rattle.history.specs.Bands.{WithResult, MayStand, NoBands}
 use Rattle.history.specs.Linearization.{Stands, lastWrite, Orders, FullOrder}
 use Rattle.history.specs.Earliest.{Earliest}
 use Rattle.history.specs.Instants.{Instants}
@@ -23,7 +24,9 @@ use Rattle.history.proofs.FromOrder.{mono, placed}
 use Rattle.history.proofs.Built.{ordered}
 use Rattle.history.proofs.Verdict.{found, before-missing, has-order}
 use Rattle.history.proofs.EarliestLaws.{listing-earliest, unique}
+use Rattle.history.proofs.Bands.{may-stand, result-only}
 use Rattle.history.proofs.Swept.{swept-placed}
+use Rattle.history.proofs.NoBands.{swept-plain}
 use Rattle.history.proofs.Regular.{strict, atomic-placed, placed-atomic}
 use Rattle.history.proofs.Shrinking.{run-placed, shrunk}
 use Rattle.history.proofs.Full.{filled}
@@ -57,6 +60,18 @@ module _ (log : List ℕ) (formed : T (wellFormed log)) where
   swept-ordered s =
       let p = swept-placed s formed in
       (_, ordered (historyOf log) L (length log) (p .0) (p .1))
+
+  -- Such a log holds no band.
+  pub swept-without-bands : {F : ℕ} {fl : ℕ → ℕ} {w : ℕ} → Swept log F fl w → NoBands log
+  swept-without-bands s = swept-plain s formed
+
+  -- What an ended read may stand behind is what the papers say, by the row that ends it.
+  pub may-stand-behind : (r : ℕ) → Read (historyOf log) (length log) r → MayStand log r
+  may-stand-behind r x = may-stand log formed r x
+
+  -- In a log without bands, as a register's is, each has its result, and no other reading.
+  pub results-only : NoBands log → (r : ℕ) → Read (historyOf log) (length log) r → WithResult log r
+  results-only n r x = result-only log formed r x n
 
   -- An order gives each of its operations an instant within its span, in that order.
   pub has-instants : (l : List ℕ) → Orders log l → Instants (historyOf log) l (instantOf l)

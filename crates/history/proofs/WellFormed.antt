@@ -14,7 +14,7 @@ use Rattle.history.proofs.Placement.{Laws}
 use Rattle.words.proofs.Laws.Choice.{eq→T, T-left, T-right}
 use Rattle.history.specs.Search.{first}
 use Rattle.history.proofs.Search.{first-ge, first-le, first-passes, first-least, first-is}
-use Rattle.history.specs.Rows.{kindAt, processorAt, beginsAt}
+use Rattle.history.specs.Rows.{kindOf, kindAt, processorAt, beginsAt}
 use Rattle.history.specs.WellFormed.{openAt, headOk, rowOk, wellFormed}
 use Rattle.history.proofs.Operations.{RowOk, row→, all-at, Opened, open-le, open→, →open}
 
@@ -30,9 +30,12 @@ module _ (log : List ℕ) (wf : T (wellFormed log)) where
   unfolding wellFormed
   nonempty = ltb→lt _ _ (T-left (ltb 0 (length log)) _ wf)
 
-  pub row : (k : ℕ) → 0 < k → k < length log → RowOk log k
+  pub row-passes : (k : ℕ) → 0 < k → k < length log → T (rowOk log k)
   unfolding wellFormed
-  row k a b = row→ log k (all-at (rowOk log) (length log) k (T-right (headOk (getD log 0 0)) _ (T-right (ltb 0 (length log)) _ wf)) a b)
+  row-passes k a b = all-at (rowOk log) (length log) k (T-right (headOk (getD log 0 0)) _ (T-right (ltb 0 (length log)) _ wf)) a b
+
+  pub row : (k : ℕ) → 0 < k → k < length log → RowOk log k
+  row k a b = row→ log k (row-passes k a b)
 
   -- A row's kind in the history.
   pub kind-is : (k : ℕ) → 0 < k → eventAt log k ≡ kindAt log k
@@ -41,7 +44,7 @@ module _ (log : List ℕ) (wf : T (wellFormed log)) where
   kind-is (suc k) a = refl
 
   outside : (k : ℕ) → length log ≤ k → kindAt log k ≡ 0
-  unfolding kindAt
+  unfolding kindAt kindOf
   outside k a = rw (List·getD-eq-default log 0 a)
 
   inside : (k : ℕ) → 0 < eventAt log k → k < length log

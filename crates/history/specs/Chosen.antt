@@ -24,9 +24,9 @@ unfoldable pub lastBefore : History → ℕ → ℕ → Bool
 lastBefore h w r =
     precedes h w r && all (λ v. pick (eqb (h .kind v) 1) (pick (precedes h v r) (eqb v w || precedes h v w) true) true) (h .len)
 
--- f has a write of equal reading for each read
+-- f has for each read a write that it may stand for
 unfoldable pub readsFrom : History → (ℕ → ℕ) → Bool
-readsFrom h f = all (λ r. pick (isRead h r) (eqb (h .kind (f r)) 1 && eqb (h .value (f r)) (h .value (h .end r))) true) (h .len)
+readsFrom h f = all (λ r. pick (isRead h r) (eqb (h .kind (f r)) 1 && h .suits (h .end r) (f r)) true) (h .len)
 
 unfoldable pub regular : History → (ℕ → ℕ) → Bool
 regular h f = readsFrom h f && all (λ r. pick (isRead h r) (concurrent h (f r) r || lastBefore h (f r) r) true) (h .len)

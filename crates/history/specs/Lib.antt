@@ -2,6 +2,7 @@ pub mod Search
 pub mod Rows
 pub mod WellFormed
 pub mod History
+pub mod Bands
 pub mod Linearization
 pub mod Earliest
 pub mod Instants

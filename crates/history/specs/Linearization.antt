@@ -6,7 +6,7 @@ use mathlib.Core.List.{List}
 use lib.Dec.{eqb}
 use lib.ListN.{length, getD}
 use Rattle.words.specs.Choice.{pick}
-use Rattle.history.specs.History.{History, historyOf, Write, Read, Precedes}
+use Rattle.history.specs.History.{History, historyOf, Write, Read, Suits, Precedes}
 
 -- x stands at place i of l
 pub record Stands (l : List ℕ) (i x : ℕ) : Type 0 where
@@ -27,8 +27,8 @@ pub record Linearization (h : History) (m : ℕ) (l : List ℕ) : Type 0 where
   pub once : (i j x : ℕ) → Stands l i x → Stands l j x → i ≡ j
   -- "It respects precedence."
   pub respects : (i j a b : ℕ) → Stands l i a → Stands l j b → Precedes h a b → i < j
-  -- "Each read has the reading of the last write before it, or the start reading."
-  pub reading : (i r : ℕ) → Stands l i r → Read h m r → h .value (lastWrite h l i) ≡ h .value (h .end r)
+  -- "Each read has the reading of the last write before it, or the start reading."; or that reading lies in its band
+  pub reading : (i r : ℕ) → Stands l i r → Read h m r → Suits h (lastWrite h l i) r
 
 -- an order of a whole log
 abbrev pub Orders : List ℕ → List ℕ → Type 0

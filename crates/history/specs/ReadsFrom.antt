@@ -3,7 +3,7 @@
 use Prim.Native.Nat.{ℕ}
 use mathlib.Core.Path.{_≡_}
 use mathlib.Core.Logic.{_⊎_}
-use Rattle.history.specs.History.{History, Read}
+use Rattle.history.specs.History.{History, Read, Suits}
 
 -- a write, ended or not, or the start
 abbrev pub AnyWrite : History → ℕ → Type 0
@@ -13,7 +13,7 @@ AnyWrite h w = h .kind w ≡ 1
 abbrev pub Action : History → ℕ → Type 0
 Action h a = AnyWrite h a ⊎ Read h (h .len) a
 
--- "a read being free to stand for any write of equal reading": f r is the one that the read r stands for
+-- "a read being free to stand for any write of equal reading", or of one in its band: f r is the one that the read r stands for
 pub record ReadsFrom (h : History) (f : ℕ → ℕ) : Type 0 where
   pub written : (r : ℕ) → Read h (h .len) r → AnyWrite h (f r)
-  pub value : (r : ℕ) → Read h (h .len) r → h .value (f r) ≡ h .value (h .end r)
+  pub suits : (r : ℕ) → Read h (h .len) r → Suits h (f r) r

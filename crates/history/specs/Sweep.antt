@@ -9,17 +9,17 @@ use Rattle.words.specs.Choice.{pick}
 use Rattle.history.specs.Search.{first}
 use Rattle.history.specs.History.{History}
 
--- row q is the start or a write's begin, with value v
+-- row q is the start or a write's begin, and the read ended at row e may stand behind it
 abbrev pub isSource : History → ℕ → ℕ → Bool
-isSource h v q = eqb (h .kind q) 1 && eqb (h .value q) v
+isSource h e q = eqb (h .kind q) 1 && h .suits e q
 
 -- the first such row from lo on, among n; lo + n if there is none
 abbrev pub seek : History → ℕ → ℕ → ℕ → ℕ
-seek h v lo n = first (isSource h v) lo n
+seek h e lo n = first (isSource h e) lo n
 
 -- the place of the read begun at r, with floor f: before its end
 unfoldable pub placeAt : History → ℕ → ℕ → ℕ
-placeAt h f r = seek h (h .value (h .end r)) f (h .end r - f)
+placeAt h f r = seek h (h .end r) f (h .end r - f)
 
 -- what row k raises the floor to, where f is the floor at the begin row of the operation that it ends: a write's end to its
 -- begin row, a read's end to its place

@@ -4,7 +4,7 @@ use mathlib.Core.Path.{_≡_}
 use mathlib.Core.List.{List, [], _∷_, _++_}
 use lib.ListN.{length}
 use Rattle.words.specs.Update.{upd}
-use Rattle.history.specs.Rows.{kindOf, processorOf, valueOf, valueAt}
+use Rattle.history.specs.Rows.{kindBits, processorOf, valueOf, valueAt}
 use Rattle.history.specs.History.{eventAt}
 
 -- row q is the start or a write's begin, with value v
@@ -17,11 +17,11 @@ pub record Source (log : List ℕ) (q v : ℕ) : Type 0 where
 -- begin row. A read's begin notes F; a write's end raises F to its begin row, a read's end to a source from its floor on.
 pub data Swept : List ℕ → ℕ → (ℕ → ℕ) → ℕ → Type 0 where
   starts : (x : ℕ) (fl : ℕ → ℕ) → Swept (x ∷ []) 0 fl 0
-  write-begins : {log : List ℕ} {F : ℕ} {fl : ℕ → ℕ} {w : ℕ} (x : ℕ) → kindOf x ≡ 1 → processorOf x ≡ 0 → Swept log F fl w
+  write-begins : {log : List ℕ} {F : ℕ} {fl : ℕ → ℕ} {w : ℕ} (x : ℕ) → kindBits x ≡ 1 → processorOf x ≡ 0 → Swept log F fl w
       → Swept (log ++ (x ∷ [])) F fl (length log)
-  write-ends : {log : List ℕ} {F : ℕ} {fl : ℕ → ℕ} {w : ℕ} (x : ℕ) → kindOf x ≡ 2 → processorOf x ≡ 0 → Swept log F fl w
+  write-ends : {log : List ℕ} {F : ℕ} {fl : ℕ → ℕ} {w : ℕ} (x : ℕ) → kindBits x ≡ 2 → processorOf x ≡ 0 → Swept log F fl w
       → Swept (log ++ (x ∷ [])) (max F w) fl w
-  read-begins : {log : List ℕ} {F : ℕ} {fl : ℕ → ℕ} {w : ℕ} (x i : ℕ) → kindOf x ≡ 3 → processorOf x ≡ suc i → Swept log F fl w
+  read-begins : {log : List ℕ} {F : ℕ} {fl : ℕ → ℕ} {w : ℕ} (x i : ℕ) → kindBits x ≡ 3 → processorOf x ≡ suc i → Swept log F fl w
       → Swept (log ++ (x ∷ [])) F (upd fl i F) w
-  read-ends : {log : List ℕ} {F : ℕ} {fl : ℕ → ℕ} {w : ℕ} (x i q : ℕ) → kindOf x ≡ 4 → processorOf x ≡ suc i
+  read-ends : {log : List ℕ} {F : ℕ} {fl : ℕ → ℕ} {w : ℕ} (x i q : ℕ) → kindBits x ≡ 4 → processorOf x ≡ suc i
       → Source log q (valueOf x) → fl i ≤ q → Swept log F fl w → Swept (log ++ (x ∷ [])) (max F q) fl w

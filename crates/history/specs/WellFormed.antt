@@ -6,7 +6,7 @@ use lib.Dec.{eqb, leb, ltb}
 use lib.ListN.{length, getD}
 use Rattle.words.specs.Choice.{pick}
 use Rattle.words.specs.Row.{zeroBits}
-use Rattle.history.specs.Rows.{kindOf, processorOf, valueOf, begins, processorAt, beginsAt}
+use Rattle.history.specs.Rows.{kindBits, processorOf, valueOf, lowest, highest, begins, processorAt, beginsAt}
 
 -- p is one of the readers 1..n
 abbrev pub isReader : ℕ → ℕ → Bool
@@ -14,20 +14,21 @@ isReader p n = leb 1 p && leb p n
 
 -- "row 0 as above with n 1 to 16"
 unfoldable pub headOk : ℕ → Bool
-headOk w = eqb (kindOf w) 5 && (eqb (zeroBits w) 0 && isReader (processorOf w) 16)
+headOk w = eqb (kindBits w) 5 && (eqb (zeroBits w) 0 && isReader (processorOf w) 16)
 
 -- "later rows kinds 1 to 4, zero bits and the readings of kinds 2 and 3 zero, processor 0 for kinds 1 and 2, 1..n for 3 and 4":
--- of a row of kind k, processor p, zero bits z and value v
+-- of a row of kind k, processor p, zero bits z and value v. Kind 6 stands where 4 may; "Lowest above highest is malformed".
 unfoldable pub fields : ℕ → ℕ → ℕ → ℕ → ℕ → Bool
 fields k p z v n =
     eqb z 0
     && pick (eqb k 1) (eqb p 0)
     (pick (eqb k 2) (eqb v 0 && eqb p 0)
     (pick (eqb k 3) (eqb v 0 && isReader p n)
-    (pick (eqb k 4) (isReader p n) false)))
+    (pick (eqb k 4) (isReader p n)
+    (pick (eqb k 6) (isReader p n && leb (lowest v) (highest v)) false))))
 
 abbrev pub fieldsOk : ℕ → ℕ → Bool
-fieldsOk w n = fields (kindOf w) (processorOf w) (zeroBits w) (valueOf w) n
+fieldsOk w n = fields (kindBits w) (processorOf w) (zeroBits w) (valueOf w) n
 
 -- the begin row of processor i's open operation before row k, or 0
 unfoldable pub openAt : List ℕ → ℕ → ℕ → ℕ

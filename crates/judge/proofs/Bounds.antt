@@ -38,7 +38,7 @@ missing-new P x k q b m o n =
 module _ (h : History) (L : Laws h) where
   pub place-le : (r : ℕ) → floor h r ≤ h .end r → place h r ≤ h .end r
   unfolding place placeAt
-  place-le r a = omega (arith, first-le (isSource h (h .value (h .end r))) (floor h r) (h .end r - floor h r))
+  place-le r a = omega (arith, first-le (isSource h (h .end r)) (floor h r) (h .end r - floor h r))
 
   adds-le : (k : ℕ) → floor h (h .begin k) ≤ h .begin k → adds h (floor h (h .begin k)) k ≤ k
   unfolding adds place

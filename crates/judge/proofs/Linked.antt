@@ -20,7 +20,7 @@ use Rattle.history.proofs.Placement.{Laws}
 use Rattle.history.specs.Sweep.{adds, floor, floors, placeAt, place, isRead, fails, missing}
 use Rattle.history.proofs.Floors.{floor-suc}
 use Rattle.history.proofs.Built.{read→, →read}
-use Rattle.history.specs.Rows.{kindAt, processorAt, valueAt, beginsAt, begins, kindOf, processorOf}
+use Rattle.history.specs.Rows.{kindAt, processorAt, beginsAt, begins, kindOf, processorOf}
 use Rattle.history.specs.WellFormed.{openAt, wellFormed}
 use Rattle.history.proofs.Operations.{RowOk, begin-is, open-suc, open-le}
 use Rattle.history.proofs.WellFormed.{begin→, row, kind-is, laws}
@@ -116,7 +116,7 @@ module _ (log : List ℕ) (w : T (wellFormed log)) where
       q-write e = rw e beg-is
 
       pub q-read : kindAt log k ≡ 4 → rowPlace log s k ≡ place (historyOf log) (openAt log (processorAt log k) k)
-      unfolding rowPlace placeRow place placeAt kindAt processorAt valueAt
+      unfolding rowPlace placeRow place placeAt kindAt processorAt
       q-read e =
           let d = L .ended-read k (kind-is log w k a ∙ e) in
           rw (e, I .floors (processorAt log k) small (R .ends (inr e)), d .1)

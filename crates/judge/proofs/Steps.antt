@@ -13,9 +13,10 @@ use borrow.Author.Tests.{eq-eqb, ne-eqb}
 use Rattle.words.specs.Choice.{pick}
 use Rattle.words.proofs.Laws.Choice.{pick-T, and-T, T-left, T-right, T→true, not→false}
 use Rattle.judge.proofs.FoldLaws.{upTo-one, upTo-suc}
-use Rattle.history.specs.Rows.{processorAt, beginsAt, begins, kindOf, processorOf}
+use Rattle.history.specs.Rows.{processorAt, beginsAt, begins, kindBits, kindOf, processorOf}
 use Rattle.history.specs.WellFormed.{openAt, headOk, isReader, fieldsOk, alternates, rowOk, all, wellFormed}
-use Rattle.history.proofs.Operations.{all-at, fields→, begin-is}
+use Rattle.history.proofs.Operations.{fields→, begin-is}
+use Rattle.history.proofs.WellFormed.{row-passes}
 use Rattle.words.specs.Row.{zeroBits}
 use Rattle.judge.specs.Fold.{upTo}
 use Rattle.judge.specs.Sweeping.{processors, Sweep, openAfter, opensTo, rowPlace, placeRow, floorAfter, missingAfter, nextState, freshSweep, sweepTo}
@@ -110,9 +111,9 @@ module _ (log : List ℕ) where
 
   -- A row's processor is in range.
   pub proc-small : (y : ℕ) → T (headOk (getD log 0 0)) → T (fieldsOk y (processorAt log 0)) → processorOf y < processors
-  unfolding headOk processorAt
+  unfolding headOk kindOf processorAt
   proc-small y a b =
-      let u : T (isReader (processorOf (getD log 0 0)) 16) = T-right (eqb (zeroBits (getD log 0 0)) 0) _ (T-right (eqb (kindOf (getD log 0 0)) 5) _ a) in
+      let u : T (isReader (processorOf (getD log 0 0)) 16) = T-right (eqb (zeroBits (getD log 0 0)) 0) _ (T-right (eqb (kindBits (getD log 0 0)) 5) _ a) in
       let n : processorOf (getD log 0 0) ≤ 16 = leb→le _ _ (T-right (leb 1 (processorOf (getD log 0 0))) _ u) in
       let f = fields→ _ _ _ _ _ b in
       elim (decLt (kindOf y) 3) [ yes c ↦ omega (arith, f .writer (omega arith)) | no c ↦ omega (arith, f .reader (omega arith)) ]
@@ -125,13 +126,9 @@ module _ (log : List ℕ) where
   unfolding wellFormed
   some w = omega (arith, ltb→lt 0 (length log) (T-left (ltb 0 (length log)) _ w))
 
-  pub row-of : T (wellFormed log) → (k : ℕ) → 0 < k → k < length log → T (rowOk log k)
-  unfolding wellFormed
-  row-of w k a b = all-at (rowOk log) (length log) k (T-right (headOk (getD log 0 0)) _ (T-right (ltb 0 (length log)) _ w)) a b
-
   pub proc-in : T (wellFormed log) → (k : ℕ) → 0 < k → k < length log → processorOf (getD log k 0) < processors
   unfolding rowOk
-  proc-in w k a b = proc-small (getD log k 0) (head-of w) (T-left (fieldsOk (getD log k 0) (processorAt log 0)) _ (row-of w k a b))
+  proc-in w k a b = proc-small (getD log k 0) (head-of w) (T-left (fieldsOk (getD log k 0) (processorAt log 0)) _ (row-passes log w k a b))
 
   -- The test of the rows.
   pub all-one : T (all (rowOk log) 1)
@@ -148,7 +145,7 @@ module _ (log : List ℕ) where
   formed-head e = sym (not→false (wellFormed log) (λ w. absurd (rw e at (head-of w))))
 
   pub formed-row : (k : ℕ) → 0 < k → k < length log → rowOk log k ≡ false → false ≡ wellFormed log
-  formed-row k a b e = sym (not→false (wellFormed log) (λ w. absurd (rw e at (row-of w k a b))))
+  formed-row k a b e = sym (not→false (wellFormed log) (λ w. absurd (rw e at (row-passes log w k a b))))
 
   pub formed-all : 0 < length log → T (headOk (getD log 0 0)) → T (all (rowOk log) (length log)) → true ≡ wellFormed log
   unfolding wellFormed

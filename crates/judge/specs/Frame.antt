@@ -91,6 +91,8 @@ ofRows =
     ∷ "judge::formed::fields_ok"
     ∷ "judge::formed::may_follow"
     ∷ "judge::row::processor"
+    ∷ "judge::row::kind"
+    ∷ "judge::row::suits_read"
     ∷ "judge::row::is_begin"
     ∷ "judge::row::open_after"
     ∷ "judge::sweep::first_missing"

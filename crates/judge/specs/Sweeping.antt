@@ -8,7 +8,7 @@ use Rattle.judge.specs.Fold.{upTo}
 use Rattle.history.specs.Search.{first}
 use Rattle.history.specs.Sweep.{isSource}
 use Rattle.history.specs.History.{historyOf}
-use Rattle.history.specs.Rows.{begins, kindOf, processorOf, valueOf}
+use Rattle.history.specs.Rows.{begins, kindOf, processorOf}
 
 -- the writer and up to 16 readers
 abbrev pub processors : ℕ
@@ -35,7 +35,7 @@ opensTo log k = upTo (λ o j. set o (processorOf (getD log j 0)) (openAfter (get
 unfoldable pub placeRow : List ℕ → ℕ → ℕ → ℕ → ℕ
 placeRow log k b f =
     let w = getD log k 0 in
-    pick (eqb (kindOf w) 2) b (pick (eqb (kindOf w) 4) (first (isSource (historyOf log) (valueOf w)) f (k - f)) 0)
+    pick (eqb (kindOf w) 2) b (pick (eqb (kindOf w) 4) (first (isSource (historyOf log) k) f (k - f)) 0)
 
 unfoldable pub rowPlace : List ℕ → Sweep → ℕ → ℕ
 rowPlace log s k = let p = processorOf (getD log k 0) in placeRow log k (getD (s .begins) p 0) (getD (s .floors) p 0)

@@ -1,4 +1,6 @@
 // Question 10: are the rows well formed?
+use super::row::BAND;
+use super::row::HALF;
 use super::row::KIND;
 use super::row::PROCESSOR;
 use super::row::PROCESSORS;
@@ -38,29 +40,32 @@ fn head_ok(row: u64) -> bool
 fn fields_ok(row: u64, n: u64) -> bool
     ensures { λ r. ⌜ r ≡ fieldsOk row n ⌝ }
 {
-    let kind = row / KIND % 16;
+    let bits = row / KIND % 16;
     let p = row / PROCESSOR % 256;
     let value = row % 0x1_0000_0000;
     if row / ZERO_BITS % 0x10_0000 != 0 {
         return false;
     }
-    if kind == 1 {
+    if bits == 1 {
         return p == 0;
     }
-    if kind == 2 {
+    if bits == 2 {
         if value != 0 {
             return false;
         }
         return p == 0;
     }
-    if kind == 3 {
+    if bits == 3 {
         if value != 0 {
             return false;
         }
         return is_reader(p, n);
     }
-    if kind == 4 {
+    if bits == 4 {
         return is_reader(p, n);
+    }
+    if bits == BAND {
+        return is_reader(p, n) & (value / HALF <= value % HALF);
     }
     false
 }

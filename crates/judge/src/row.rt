@@ -1,6 +1,6 @@
 // What a row of the log says.
 ghost use mathlib.Core.Path.{_≡_};
-ghost use Rattle.history.specs.Rows.{begins, processorOf};
+ghost use Rattle.history.specs.Rows.{kindOf, suits, begins, processorOf};
 ghost use Rattle.judge.specs.Sweeping.{openAfter};
 
 // Units of a row's fields.
@@ -9,6 +9,12 @@ pub(crate) const KIND: u64 = 0x1000_0000_0000_0000;
 pub(crate) const PROCESSOR: u64 = 0x10_0000_0000_0000;
 
 pub(crate) const ZERO_BITS: u64 = 0x1_0000_0000;
+
+// A band's lowest is the upper half of its row's low 32 bits, its highest the lower half.
+pub(crate) const HALF: u64 = 0x1_0000;
+
+// The kind of the end of a read with a band.
+pub(crate) const BAND: u64 = 6;
 
 // The writer and up to 16 readers.
 pub(crate) const PROCESSORS: usize = 17;
@@ -20,15 +26,37 @@ pub(crate) fn processor(row: u64) -> usize
     (row / PROCESSOR % 256) as usize
 }
 
+// The kind of a row by what it tells: a read's end is 4, with a result or with a band.
+pub(crate) fn kind(row: u64) -> u64
+    ensures { λ r. ⌜ r ≡ kindOf row ⌝ }
+{
+    let bits = row / KIND % 16;
+    if bits == BAND {
+        return 4;
+    }
+    bits
+}
+
+// Whether a read that this row ends may stand behind a write of v: v is its result, or lies within its band, ends included.
+pub(crate) fn suits_read(row: u64, v: u64) -> bool
+    ensures { λ r. ⌜ r ≡ suits row v ⌝ }
+{
+    let value = row % 0x1_0000_0000;
+    if row / KIND % 16 == BAND {
+        return (value / HALF <= v) & (v <= value % HALF);
+    }
+    v == value
+}
+
 // Whether a row is a begin.
 pub(crate) fn is_begin(row: u64) -> bool
     ensures { λ r. ⌜ r ≡ begins row ⌝ }
 {
-    let kind = row / KIND % 16;
-    if kind == 1 {
+    let told = kind(row);
+    if told == 1 {
         return true;
     }
-    kind == 3
+    told == 3
 }
 
 // The begin row of a processor's open operation after its row k, or 0.

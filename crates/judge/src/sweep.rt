@@ -1,9 +1,10 @@
 // Question 12: a sweep over the rows that gives each ended read the first row that it may stand behind.
-use super::row::KIND;
 use super::row::PROCESSORS;
 use super::row::is_begin;
+use super::row::kind;
 use super::row::open_after;
 use super::row::processor;
+use super::row::suits_read;
 ghost use mathlib.Core.Path.{_≡_};
 ghost use Prim.Native.Nat.{_-_, _<_, _≤_, max};
 ghost use lib.Dec.{T};
@@ -14,29 +15,30 @@ ghost use Rattle.history.specs.WellFormed.{wellFormed};
 ghost use Rattle.history.specs.History.{historyOf};
 ghost use Rattle.judge.specs.Sweeping.{placeRow, floorAfter, missingAfter};
 
-// Whether row q is the start row or the begin of a write, and has the value v.
-fn is_source(rows: &[u64], q: usize, v: u64) -> bool
-    requires { ⌜ q < length (now rows) ⌝ }
-    ensures { λ r. ⌜ r ≡ isSource (historyOf (now (rows .entry))) v q ⌝ }
+// Whether row q is the start row or the begin of a write, and the read that row k ends may stand behind it.
+fn is_source(rows: &[u64], k: usize, q: usize) -> bool
+    requires { ⌜ (k < length (now rows)) × (q < length (now rows)) ⌝ }
+    ensures { λ r. ⌜ r ≡ isSource (historyOf (now (rows .entry))) k q ⌝ }
 {
+    let end = rows[k];
     let row = rows[q];
     if q == 0 {
-        return row % 0x1_0000_0000 == v;
+        return suits_read(end, row % 0x1_0000_0000);
     }
-    if row / KIND % 16 == 1 {
-        return row % 0x1_0000_0000 == v;
+    if kind(row) == 1 {
+        return suits_read(end, row % 0x1_0000_0000);
     }
     false
 }
 
-// The first source of v from row lo on and below row hi; hi, or lo, if there is none.
-fn seek(rows: &[u64], v: u64, lo: usize, hi: usize) -> usize
-    requires { ⌜ hi ≤ length (now rows) ⌝ }
-    ensures { λ r. ⌜ r ≡ first (isSource (historyOf (now (rows .entry))) v) lo (hi - lo) ⌝ }
+// The first such row from lo on and below row k; k, or lo, if there is none.
+fn seek(rows: &[u64], k: usize, lo: usize) -> usize
+    requires { ⌜ k < length (now rows) ⌝ }
+    ensures { λ r. ⌜ r ≡ first (isSource (historyOf (now (rows .entry))) k) lo (k - lo) ⌝ }
 {
     let mut q = lo;
-    while q < hi {
-        if is_source(rows, q, v) {
+    while q < k {
+        if is_source(rows, k, q) {
             return q;
         }
         q += 1;
@@ -49,13 +51,12 @@ pub(crate) fn row_place(rows: &[u64], k: usize, b: usize, f: usize) -> usize
     requires { ⌜ k < length (now rows) ⌝ }
     ensures { λ r. ⌜ r ≡ placeRow (now (rows .entry)) k b f ⌝ }
 {
-    let row = rows[k];
-    let kind = row / KIND % 16;
-    if kind == 2 {
+    let told = kind(rows[k]);
+    if told == 2 {
         return b;
     }
-    if kind == 4 {
-        return seek(rows, row % 0x1_0000_0000, f, k);
+    if told == 4 {
+        return seek(rows, k, f);
     }
     0
 }
@@ -83,7 +84,7 @@ pub(crate) fn larger(a: usize, b: usize) -> usize
 fn missing_after(row: u64, k: usize, q: usize, b: usize, m: usize) -> usize
     ensures { λ r. ⌜ r ≡ missingAfter row k q b m ⌝ }
 {
-    if row / KIND % 16 != 4 {
+    if kind(row) != 4 {
         return m;
     }
     if q < k {

@@ -17,6 +17,7 @@ use Rattle.words.proofs.Laws.Choice.{pick-ind, lt-ind, le-ind, eq-ind, never, l
 use Rattle.words.proofs.Laws.Update.{upd-elim}
 use Rattle.history.specs.Rows.{valueOf, begins, kindAt, processorAt, beginsAt}
 use Rattle.history.specs.WellFormed.{isReader, headOk, fields, openAt, alternates, rowOk, all, wellFormed}
+use Rattle.history.proofs.Bands.{kind-plain}
 use Rattle.history.proofs.Operations.{open-suc}
 use Rattle.history.proofs.WellFormed.{nonempty}
 use Rattle.history.proofs.Grow.{grown, grown-length, grown-proc, grown-open, grown-wellFormed}
@@ -32,7 +33,7 @@ record Formed (n : ℕ) (rows : List ℕ) (op : ℕ → Operation) : Type 0 wher
   pub open-is : (p : ℕ) → isOpen (op p) ≡ true → 0 < openAt rows p (length rows)
 
 -- One row more, of kind k, processor p and value v, that leaves p with the operation q.
-module _ (n : ℕ) (rows : List ℕ) (op : ℕ → Operation) (F : Formed n rows op) (k p v : ℕ) (q : Operation) (k-low : k < 2 ^ 4) (p-low : p < 2 ^ 8)
+module _ (n : ℕ) (rows : List ℕ) (op : ℕ → Operation) (F : Formed n rows op) (k p v : ℕ) (q : Operation) (k-low : k < 6) (p-low : p < 2 ^ 8)
     (fit : T (fields k p 0 (valueOf (rowOf k p v)) n)) (begin : (eqb k 1 || eqb k 3) ≡ isOpen q) (turns : isOpen (op p) ≡ not (isOpen q)) where
   abbrev x : ℕ
   x = rowOf k p v
@@ -42,7 +43,7 @@ module _ (n : ℕ) (rows : List ℕ) (op : ℕ → Operation) (F : Formed n rows
 
   begins-is : begins x ≡ isOpen q
   unfolding begins
-  begins-is = rw (row-kind k p v k-low) begin
+  begins-is = rw (kind-plain x k (row-kind k p v (omega arith)) k-low) begin
 
   proc-is : processorAt (grown rows x) (length rows) ≡ p
   unfolding processorAt
@@ -60,7 +61,7 @@ module _ (n : ℕ) (rows : List ℕ) (op : ℕ → Operation) (F : Formed n rows
   unfolding rowOk alternates
   row-ok =
       let h : processorAt (grown rows x) 0 ≡ n = grown-proc rows x 0 some ∙ F .head in
-      rw (getD-append-seam rows x [] 0, proc-is, h, begins-is, row-kind k p v k-low, row-processor k p v p-low, row-zero k p v, grown-open rows x p (length rows) (omega arith))
+      rw (getD-append-seam rows x [] 0, proc-is, h, begins-is, row-kind k p v (omega arith), row-processor k p v p-low, row-zero k p v, grown-open rows x p (length rows) (omega arith))
       (and-T (fields k p 0 (valueOf x) n) _ fit (alternate (openAt rows p (length rows)) (isOpen q) refl (F .idle-is p) (F .open-is p)))
 
   new-open : (j : ℕ) → openAt (grown rows x) j (length (grown rows x)) ≡ pick (eqb p j) (pick (isOpen q) (length rows) 0) (openAt rows j (length rows))
@@ -108,14 +109,14 @@ module _ (n : ℕ) (few : n ≤ 16) (len : ℕ) (b : Model) (F : Formed n (b .ro
   abbrev Fine : Told → Type 0
   Fine x = Formed n (x .model .rows) (x .model .op)
 
-  begins-formed : (p kind v : ℕ) → kind < 2 ^ 4 → p < 2 ^ 8 → T (fields kind p 0 (valueOf (rowOf kind p v)) n) → (eqb kind 1 || eqb kind 3) ≡ true
+  begins-formed : (p kind v : ℕ) → kind < 6 → p < 2 ^ 8 → T (fields kind p 0 (valueOf (rowOf kind p v)) n) → (eqb kind 1 || eqb kind 3) ≡ true
       → Fine (modelBegins n len b p kind v)
   unfolding modelBegins
   begins-formed p kind v kl pl fit g =
       pick-ind Fine (isOpen (b .op p)) _ _ (λ _. F)
       (λ e. le-ind Fine _ len _ _ (λ _. add-row n (b .rows) (b .op) F kind p v (open-with v 0 []) kl pl fit g e) (λ _. F))
 
-  turn-formed : (p kind : ℕ) (x : Turn) → kind < 2 ^ 4 → p < 2 ^ 8 → isOpen (b .op p) ≡ true → (eqb kind 1 || eqb kind 3) ≡ false
+  turn-formed : (p kind : ℕ) (x : Turn) → kind < 6 → p < 2 ^ 8 → isOpen (b .op p) ≡ true → (eqb kind 1 || eqb kind 3) ≡ false
       → T (fields kind p 0 (valueOf (rowOf kind p (x .value))) n) → Formed n (entered b p kind x .rows) (entered b p kind x .op)
   turn-formed p kind x kl pl o g fit =
       pick-ind (λ (r : List ℕ). Formed n r (upd (b .op) p (x .op))) (isOpen (x .op)) _ _ (λ e. stay n (b .rows) (b .op) F p (x .op) o e)

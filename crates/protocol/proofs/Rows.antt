@@ -3,11 +3,11 @@ use Prim.Native.Nat.{ℕ, _^_, _<_}
 use mathlib.Core.Path.{_≡_}
 use native.Mathlib.Omega.{arith}
 use Rattle.words.specs.Row.{packRow, zeroBits}
-use Rattle.history.specs.Rows.{kindOf, processorOf, valueOf}
+use Rattle.history.specs.Rows.{kindBits, processorOf, valueOf}
 use Rattle.protocol.specs.Calls.{rowOf}
 
 module _ (k p v : ℕ) where
-  pub row-kind : k < 2 ^ 4 → kindOf (rowOf k p v) ≡ k
+  pub row-kind : k < 2 ^ 4 → kindBits (rowOf k p v) ≡ k
   unfolding packRow
   row-kind h = omega arith
 

@@ -16,7 +16,7 @@ use Rattle.protocol.proofs.Range.{range-test}
 use Rattle.protocol.proofs.Run.{FromSetUp, from-set-up, kept-fine}
 use Rattle.protocol.proofs.Counts.{write-moves, read-moves, first-ticket}
 use Rattle.protocol.proofs.Formed.{rows-formed}
-use Rattle.protocol.proofs.Atomic.{rows-ordered}
+use Rattle.protocol.proofs.Atomic.{rows-ordered, rows-plain}
 
 module _ (n v : ℕ) (t l : List ℕ) (cs : List Call) (e : setUpOf n v t l .answer ≡ Accepted) where
   abbrev r : Ran
@@ -78,4 +78,5 @@ module _ (n v : ℕ) (t l : List ℕ) (cs : List Call) (e : setUpOf n v t l .ans
         new-ticket = next-ticket;
         formed = rows-formed n (length l) v cs (z .n-low) (z .n-high);
         ordered = rows-ordered n (length l) v cs (z .n-low) (z .n-high) low lows;
+        no-bands = rows-plain n (length l) v cs (z .n-low) (z .n-high) low lows;
       }

@@ -9,6 +9,7 @@ use lib.ListN.{length, take, drop}
 use Rattle.words.specs.declared.cell.Cell.{Cell}
 use Rattle.words.specs.Choice.{pick}
 use Rattle.history.specs.WellFormed.{wellFormed}
+use Rattle.history.specs.Bands.{NoBands}
 use Rattle.history.specs.Linearization.{Orders}
 use Rattle.protocol.specs.declared.Answer.{Answer}
 use Rattle.protocol.specs.declared.Answer.the-variants.{Moved}
@@ -90,3 +91,5 @@ module _ (n v : ℕ) (t l : List ℕ) (cs : List Call) where
     -- "and these rows have an order": they are well formed, and there is one
     pub formed : T (wellFormed (model .rows))
     pub ordered : (o : List ℕ) × Orders (model .rows) o
+    -- "logs of the register itself contain no such rows": none ends a read with a band
+    pub no-bands : NoBands (model .rows)

@@ -15,6 +15,7 @@ use Rattle.words.proofs.Laws.Choice.{pick-ind, left, right}
 use Rattle.words.specs.Bits.{low}
 use Rattle.protocol.specs.declared.State.{State}
 use Rattle.history.specs.WellFormed.{wellFormed}
+use Rattle.history.specs.Bands.{NoBands}
 use Rattle.history.specs.Linearization.{Orders}
 use Rattle.history.proofs.Theorems.{never-older}
 use Rattle.protocol.specs.declared.Answer.{Answer}
@@ -208,6 +209,7 @@ module _ (n v : ℕ) (t l words places : List ℕ) where
         cells-beyond = w .cells-beyond;
         rows-beyond = w .rows-beyond;
         ordered = subst (λ (rows : List ℕ). (o : List ℕ) × Orders rows o) (sym (w .rows-are)) (w .ordered);
+        no-bands = subst (λ (rows : List ℕ). NoBands rows) (sym (w .rows-are)) (w .no-bands);
         never-older = never-older _ (subst (λ (rows : List ℕ). T (wellFormed rows)) (sym (w .rows-are)) (w .formed));
         whole = λ k. whole n v t l (take k (callsIn words places)) e low (low-take k (callsIn words places) (low-calls words places));
       }

@@ -14,6 +14,7 @@ use Rattle.protocol.specs.SetUp.{setUpOf}
 use Rattle.protocol.specs.Reference.{Call, write, read, step}
 use Rattle.protocol.specs.Runs.{runOf}
 use Rattle.history.specs.History.{historyOf, Precedes}
+use Rattle.history.specs.Bands.{NoBands}
 use Rattle.history.specs.Linearization.{Stands, lastWrite, Orders}
 use Rattle.protocol.specs.Whole.{Whole, modelOf}
 use Rattle.register.specs.declared.run.Made.{Made}
@@ -88,6 +89,8 @@ module _ (n v : ℕ) (t l words places : List ℕ) (m : MadeCalls) where
     pub rows-beyond : drop (m .state .used) (m .log) ≡ drop (m .state .used) (setUpOf n v t l .log)
     -- "and that log has such an order"
     pub ordered : (o : List ℕ) × Orders (take (m .state .used) (m .log)) o
+    -- "logs of the register itself contain no such rows": none ends a read with a band
+    pub no-bands : NoBands (take (m .state .used) (m .log))
     -- "can yours be the older although you looked later?" In no order of the log: a read that began after another had ended stands
     -- behind the same write or a later one.
     pub never-older : (o : List ℕ) → Orders (take (m .state .used) (m .log)) o → NeverOlder (take (m .state .used) (m .log)) o

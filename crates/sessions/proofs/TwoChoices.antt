@@ -33,7 +33,7 @@ g = chosen ((4, 0) ∷ (6, 1) ∷ [])
 
 -- what computing shows of it: the read at row 6 has no place
 computed : T (wellFormed twoChoices) × T (regular h f) × T (readsFrom h g) × T (uninverted h g) × (missing h ≡ 6)
-unfolding Row.packRow Rows.begins Rows.kindAt Rows.processorAt Rows.valueAt WellFormed.wellFormed WellFormed.headOk WellFormed.fields WellFormed.openAt WellFormed.alternates WellFormed.rowOk WellFormed.all History.eventAt History.endAt Search.first Sweep.placeAt Sweep.adds Sweep.floors Sweep.floor Sweep.place Sweep.missing Chosen.chosen Chosen.lastBefore Chosen.readsFrom Chosen.regular Chosen.uninverted
+unfolding Row.packRow Rows.kindOf Rows.within Rows.suits Rows.begins Rows.kindAt Rows.processorAt Rows.valueAt WellFormed.wellFormed WellFormed.headOk WellFormed.fields WellFormed.openAt WellFormed.alternates WellFormed.rowOk WellFormed.all History.eventAt History.endAt Search.first Sweep.placeAt Sweep.adds Sweep.floors Sweep.floor Sweep.place Sweep.missing Chosen.chosen Chosen.lastBefore Chosen.readsFrom Chosen.regular Chosen.uninverted
 computed = (tt, tt, tt, tt, refl)
 
 no-order : (l : List ℕ) → ¬ Orders twoChoices l

@@ -26,7 +26,7 @@ pub data Session : Type 0 where
   row : Row → ℕ → Session
   -- a log that is judged, with the places for its order; the answer's number and values, and the places after the call
   judged : List ℕ → List ℕ → ℕ → List ℕ → List ℕ → Session
-  -- a log that is tried with a write of equal reading for each of its reads, by begin rows (report CS-R8704): whether it is regular by this
+  -- a log that is tried with a write that each of its reads may stand for, by begin rows (report CS-R8704): whether it is regular by this
   -- choice, and whether no two reads are inverted
   tried : (log : List ℕ) (choice : List (ℕ × ℕ)) (isRegular isUninverted : Bool) → Session
   -- a set-up of n readers with start reading v on a lent table and log, refused by its number

@@ -200,6 +200,26 @@ table =
     ∷ tried twoChoices ((4, 3) ∷ (6, 1) ∷ []) true false
     ∷ tried twoChoices ((4, 0) ∷ (6, 1) ∷ []) false true
     ∷ judged twoChoices places 12 (6 ∷ []) places
+    -- "row kind 6, read ends" (document 02, card 13): reader 1 with the band 5 to 6, by its word
+    ∷ row (event 6 1 0x00050006) 0x6010000000050006
+    -- "Such a read may stand behind any write, or the start, whose reading lies within both, ends included.": 5 in 5 to 6, and 6 in 4 to 6
+    ∷ judged (two (R 1 ∷ W 5 ∷ w ∷ W 6 ∷ w ∷ 0x6010000000050006 ∷ R 2 ∷ 0x6020000000040006 ∷ [])) places 0 (4 ∷ []) (2 ∷ 1 ∷ 4 ∷ 7 ∷ 77 ∷ [])
+    -- the start's 7 in 7 to 7, but neither in 8 to 9 nor in 5 to 6
+    ∷ judged (two (R 1 ∷ 0x6010000000070007 ∷ [])) places 0 (1 ∷ []) (1 ∷ 77 ∷ 77 ∷ 77 ∷ 77 ∷ [])
+    ∷ judged (two (R 1 ∷ 0x6010000000080009 ∷ [])) places 12 (1 ∷ []) places
+    ∷ judged (two (R 1 ∷ 0x6010000000050006 ∷ [])) places 12 (1 ∷ []) places
+    -- a reading of 65,536 and more lies in no band: 00050006 not in 5 to 6, 00010005 not in 0 to 65,535
+    ∷ judged (two (W 0x00050006 ∷ w ∷ R 1 ∷ 0x6010000000050006 ∷ [])) places 12 (3 ∷ []) places
+    ∷ judged (two (W 0x00010005 ∷ w ∷ R 1 ∷ 0x601000000000FFFF ∷ [])) places 12 (3 ∷ []) places
+    -- one reader's reads, with a result and with bands: the last could only be the start's, which is older than what was read before
+    ∷ judged (two (R 1 ∷ r 1 7 ∷ W 5 ∷ R 1 ∷ 0x6010000000040005 ∷ R 1 ∷ 0x6010000000060008 ∷ [])) places 12 (6 ∷ []) places
+    -- report CS-R8704, with two writes in a read's band: by the one the reads are inverted, by the other not
+    ∷ tried (two (W 5 ∷ w ∷ W 6 ∷ R 1 ∷ r 1 6 ∷ R 2 ∷ 0x6020000000050006 ∷ [])) ((4, 3) ∷ (6, 1) ∷ []) true false
+    ∷ tried (two (W 5 ∷ w ∷ W 6 ∷ R 1 ∷ r 1 6 ∷ R 2 ∷ 0x6020000000050006 ∷ [])) ((4, 3) ∷ (6, 3) ∷ []) true true
+    -- "Lowest above highest is malformed, question 10."; and so is a band where no read is open, and one by the writer
+    ∷ judged (two (R 1 ∷ 0x6010000000080007 ∷ [])) places 10 [] places
+    ∷ judged (two (R 1 ∷ 0x6020000000050008 ∷ [])) places 10 [] places
+    ∷ judged (two (W 5 ∷ 0x6000000000050008 ∷ [])) places 10 [] places
     -- "Row 0 alone: empty order.", and the other refusals: no rows, two begins of one processor, a place short
     ∷ judged (two []) places 0 (0 ∷ []) places
     ∷ judged [] places 9 [] places

@@ -45,11 +45,11 @@ fn try_row_0() {
     try_alone(0x5020_0001_0000_0007); // the last zero bit
 }
 
-// Later rows: kinds 1 to 4, zero bits, and no reading in kinds 2 and 3.
+// Later rows: kinds 1 to 4 and 6, zero bits, and no reading in kinds 2 and 3.
 fn try_fields() {
     try_row(0x0000_0000_0000_0000); // kind 0
     try_row(ROW_0); // kind 5
-    try_row(0x6010_0000_0000_0000); // kind 6
+    try_pair(R_1, 0x7010_0000_0000_0007); // kind 7
     try_row(0xF010_0000_0000_0000); // kind 15
     try_row(0x1000_0001_0000_0005); // zero bits of kinds 1 to 4
     try_pair(W_5, 0x2008_0000_0000_0000);
@@ -69,6 +69,18 @@ fn try_processors() {
     try_pair(R_1, 0x4030_0000_0000_0007); // kind 4, processor 3
 }
 
+// Kind 6 stands where kind 4 may, and its lowest is not above its highest.
+fn try_bands() {
+    try_alone(0x6020_0000_0000_0007); // as row 0
+    try_pair(R_1, 0x6010_0000_0008_0007); // lowest above highest
+    try_pair(R_1, 0x6010_0001_0000_0007); // zero bits
+    try_pair(W_5, 0x6000_0000_0000_0005); // processor 0
+    try_pair(R_1, 0x6030_0000_0000_0007); // processor 3
+    try_row(0x6010_0000_0000_0007); // the end of a read first
+    try_pair(R_1, 0x6020_0000_0000_0007); // the end of another reader's read
+    try_three(R_1, 0x6010_0000_0000_0007, 0x4010_0000_0000_0007); // two ends
+}
+
 // Begins and ends alternating per processor, a begin first.
 fn try_alternating() {
     try_row(0x2000_0000_0000_0000); // the end of a write first
@@ -84,5 +96,6 @@ pub(crate) fn try_all() {
     try_row_0();
     try_fields();
     try_processors();
+    try_bands();
     try_alternating();
 }

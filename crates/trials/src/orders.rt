@@ -5,7 +5,8 @@ use super::text::print_rows;
 use super::text::print_with;
 ghost use Prim.Native.Nat.{_≤_};
 
-// Rows of logs of two readers with start reading 7. W: a write begins; W_END: it ends; R: a read begins; E: it ends, with a reading.
+// Rows of logs of two readers with start reading 7. W: a write begins; W_END: it ends; R: a read begins; E: it ends, with a reading;
+// B: it ends, with a band.
 const ROW_0: u64 = 0x5020_0000_0000_0007;
 
 const W_5: u64 = 0x1000_0000_0000_0005;
@@ -27,6 +28,10 @@ const E_2_5: u64 = 0x4020_0000_0000_0005;
 const E_2_6: u64 = 0x4020_0000_0000_0006;
 
 const E_2_7: u64 = 0x4020_0000_0000_0007;
+
+const B_1_5_TO_6: u64 = 0x6010_0000_0005_0006;
+
+const B_2_4_TO_6: u64 = 0x6020_0000_0004_0006;
 
 fn try_rows(rows: &[u64], places: usize)
     requires { ⌜ places ≤ 4097 ⌝ }
@@ -93,6 +98,24 @@ fn try_ends() {
     try_rows(&rows, 16);
 }
 
+// A band across two writes, met at its lowest; one met at its highest; one that the start misses.
+fn try_bands() {
+    let met = [
+        ROW_0,
+        R_1,
+        W_5,
+        W_END,
+        W_6,
+        W_END,
+        B_1_5_TO_6,
+        R_2,
+        B_2_4_TO_6,
+    ];
+    try_rows(&met, 16);
+    let missed = [ROW_0, R_2, B_2_4_TO_6];
+    try_rows(&missed, 16);
+}
+
 pub(crate) fn try_all() {
     try_places();
     try_unended();
@@ -102,4 +125,5 @@ pub(crate) fn try_all() {
     try_rows_of_12();
     try_unended_write();
     try_ends();
+    try_bands();
 }

@@ -8,9 +8,10 @@ use lib.ListN.{length, getD}
 use lib.Seq.{getD-append-seam}
 use Rattle.words.specs.Update.{upd}
 use Rattle.words.proofs.Laws.Update.{upd-elim, upd-same, upd-other}
-use Rattle.history.specs.Rows.{kindOf, valueOf, kindAt, valueAt}
+use Rattle.history.specs.Rows.{kindBits, kindOf, valueOf, kindAt, valueAt}
 use Rattle.history.specs.History.{eventAt}
 use Rattle.history.specs.Swept.{Source, Swept, write-begins, write-ends, read-begins, read-ends}
+use Rattle.history.proofs.Bands.{kind-plain}
 use Rattle.history.proofs.Grow.{grown, grown-length, grown-val, grown-kindOf}
 use Rattle.numbered.proofs.Splits.{eq-or, lt-or}
 use Rattle.numbered.proofs.Machine.{Phase, rest, begun, looked, announced, second, storing, Reader, St, PhOk}
@@ -25,11 +26,11 @@ source-more log x q v h = record {
   shows = grown-val log x q (h .inside) ∙ h .shows;
 }
 
-source-last : (log : List ℕ) (x v : ℕ) → kindOf x ≡ 1 → valueOf x ≡ v → Source (grown log x) (length log) v
+source-last : (log : List ℕ) (x v : ℕ) → kindBits x ≡ 1 → valueOf x ≡ v → Source (grown log x) (length log) v
 unfolding valueAt eventAt kindAt
 source-last log x v k e = record {
   inside = omega (arith, grown-length log x);
-  is = event (grown log x) (length log) (rw (getD-append-seam log x [] 0) k);
+  is = event (grown log x) (length log) (rw (getD-append-seam log x [] 0) (kind-plain x 1 k (omega arith)));
   shows = rw (getD-append-seam log x [] 0) e;
 }
   where

@@ -39,7 +39,11 @@ returns-7 c = rw (eq-eqb _ _ (c .before .before .before .before .before .if1 .le
 
 returns-8 : tie.Need-returns-8
 unfolding fields
-returns-8 c = rw (eq-eqb _ _ (c .before .before .before .before .if1 .left), ne-eqb _ _ (c .before .before .before .if2 .left), ne-eqb _ _ (c .before .before .if3 .left), ne-eqb _ _ (c .before .if5 .left), ne-eqb _ _ (c .if7 .left))
+returns-8 c = rw (eq-eqb _ _ (c .before .before .before .before .before .before .if1 .left), c .before .if8 .taken, c .is-reader3 .ensures)
+
+returns-9 : tie.Need-returns-9
+unfolding fields
+returns-9 c = rw (eq-eqb _ _ (c .before .before .before .before .before .if1 .left), ne-eqb _ _ (c .before .before .before .before .if2 .left), ne-eqb _ _ (c .before .before .before .if3 .left), ne-eqb _ _ (c .before .before .if5 .left), ne-eqb _ _ (c .before .if7 .left), ne-eqb _ _ (c .if8 .left))
 
 pub fields-ok-spec : {M : Type 1} → statement M
 fields-ok-spec =
@@ -54,4 +58,6 @@ fields-ok-spec =
     returns-6
     (λ c κs. search needs)
     returns-7
-    returns-8)
+    (λ c κs. search needs)
+    returns-8
+    returns-9)

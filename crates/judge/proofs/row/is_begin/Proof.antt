@@ -1,3 +1,4 @@
+use borrow.Author.Needs.{needs}
 use borrow.Author.Tests.{eq-eqb, ne-eqb}
 use Rattle.history.specs.Rows.{begins}
 use Rattle.judge.specs.Frame.{KeepsLittle}
@@ -10,11 +11,11 @@ keeps-little = record { small = tt; inside = tt }
 
 returns : tie.Need-returns
 unfolding begins
-returns c = rw (eq-eqb _ _ (c .if1 .taken))
+returns c = rw (← c .before .kind .ensures, eq-eqb _ _ (c .if1 .taken))
 
 returns-2 : tie.Need-returns-2
 unfolding begins
-returns-2 c = rw (ne-eqb _ _ (c .if1 .left))
+returns-2 c = rw (← c .before .kind .ensures, ne-eqb _ _ (c .if1 .left))
 
 pub is-begin-spec : {M : Type 1} → statement M
-is-begin-spec = tie.close (tie.spec returns returns-2)
+is-begin-spec = tie.close (tie.spec (λ c κs. search needs) returns returns-2)

@@ -1,4 +1,5 @@
 use native.Mathlib.Omega.{arith}
+use mathlib.Core.Path.{_∙_}
 use borrow.Author.Needs.{needs}
 use Rattle.history.proofs.Source.{good-start, good-write, good-other}
 use Rattle.judge.specs.Frame.{KeepsLittle}
@@ -10,13 +11,25 @@ keeps-little : KeepsLittle function
 keeps-little = record { small = tt; inside = tt }
 
 returns : tie.Need-returns
-returns c = good-start _ _ _ (omega arith)
+returns c = c .suits-read .ensures ∙ good-start _ _ _ (omega arith)
 
 returns-2 : tie.Need-returns-2
-returns-2 c = good-write _ _ _ (omega arith) (omega arith)
+returns-2 c = c .suits-read2 .ensures ∙ good-write _ _ _ (omega arith) (omega (arith, c .before .before .kind .ensures))
 
 returns-3 : tie.Need-returns-3
-returns-3 c = good-other _ _ _ (omega arith) (omega arith)
+returns-3 c = good-other _ _ _ (omega arith) (omega (arith, c .before .kind .ensures))
 
 pub is-source-spec : {M : Type 1} → statement M
-is-source-spec = tie.close (tie.spec (λ c. search needs) (λ c. search needs) returns returns-2 returns-3)
+is-source-spec =
+    tie.close
+    (tie.spec
+    (λ c. search needs)
+    (λ c. search needs)
+    (λ c. search needs)
+    (λ c. search needs)
+    (λ c κs. search needs)
+    returns
+    (λ c κs. search needs)
+    (λ c κs. search needs)
+    returns-2
+    returns-3)

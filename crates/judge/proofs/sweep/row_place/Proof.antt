@@ -11,16 +11,16 @@ keeps-little = record { small = tt; inside = tt }
 
 returns : tie.Need-returns
 unfolding placeRow
-returns c = rw (c .if1 .taken)
+returns c = rw (← c .before .kind .ensures, c .if1 .taken)
 
 returns-2 : tie.Need-returns-2
 unfolding placeRow
-returns-2 c = rw (c .before .if2 .taken) (c .seek .ensures)
+returns-2 c = rw (← c .before .before .before .kind .ensures, c .before .if2 .taken) (c .seek .ensures)
 
 returns-3 : tie.Need-returns-3
 unfolding placeRow
-returns-3 c = rw (ne-eqb _ _ (c .before .if1 .left), ne-eqb _ _ (c .if2 .left))
+returns-3 c = rw (← c .before .before .kind .ensures, ne-eqb _ _ (c .before .if1 .left), ne-eqb _ _ (c .if2 .left))
 
 pub row-place-spec : {M : Type 1} → statement M
 row-place-spec =
-    tie.close (tie.spec (λ c. search needs) (λ c. search needs) returns (λ c κs. search needs) returns-2 returns-3)
+    tie.close (tie.spec (λ c. search needs) (λ c. search needs) (λ c κs. search needs) returns (λ c κs. search needs) returns-2 returns-3)

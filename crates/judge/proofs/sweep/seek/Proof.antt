@@ -1,6 +1,6 @@
 use native.Mathlib.Omega.{arith}
 use mathlib.Core.Path.{_≡_, refl, sym, _∙_}
-use Prim.Native.Nat.{_≤_, _-_}
+use Prim.Native.Nat.{_<_, _-_}
 use lib.ListN.{length}
 use Rattle.history.specs.Search.{first}
 use Rattle.history.proofs.Search.{first-hit, first-miss, first-end}
@@ -15,16 +15,16 @@ keeps-little : KeepsLittle function
 keeps-little = record { small = tt; inside = tt }
 
 abbrev Inv-loop : tie.InvT-loop
-Inv-loop log v lo hi q₀ q = (hi ≤ length log) × (first (isSource (historyOf log) v) lo (hi - lo) ≡ first (isSource (historyOf log) v) q (hi - q))
+Inv-loop log k lo q₀ q = (k < length log) × (first (isSource (historyOf log) k) lo (k - lo) ≡ first (isSource (historyOf log) k) q (k - q))
 
 abbrev μ-loop : tie.MeasureT-loop
-μ-loop log v lo hi q₀ q = hi - q
+μ-loop log k lo q₀ q = k - q
 
 loop-holds : tie.Need-loop-holds Inv-loop μ-loop
 loop-holds c = (omega arith, refl)
 
 is-source-requires : tie.Need-is-source-requires Inv-loop μ-loop
-is-source-requires c κs = omega arith
+is-source-requires c κs = (omega arith, omega arith)
 
 returns : tie.Need-returns Inv-loop μ-loop
 returns c =
