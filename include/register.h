@@ -1,4 +1,4 @@
-/* The register, for a host in C. Link target/staticlib/libhost.a, which `rt staticlib host` writes. */
+/* The registers, for a host in C. Link target/staticlib/libhost.a, which `rt staticlib host` writes. */
 #ifndef REGISTER_H
 #define REGISTER_H
 
@@ -14,5 +14,10 @@
    No two of the four buffers may overlap. Nothing else is read or written, places beyond stay as they were, and it always returns. */
 uint64_t register_run(uint32_t readers, uint32_t start, const uint64_t *calls, size_t calls_length, uint64_t *table,
                       size_t table_length, uint64_t *log, size_t log_length, uint64_t *answers, size_t answers_length);
+
+/* The counted register, with a fresh stamp for its cells: the writes go on counting from it. Set-up asks for readers * readers cells or
+   more (2), and a write's begin is refused 14 once stamp 4,294,967,295 has been used. All else as for register_run. */
+uint64_t counted_run(uint32_t readers, uint32_t start, uint32_t fresh, const uint64_t *calls, size_t calls_length, uint64_t *table,
+                     size_t table_length, uint64_t *log, size_t log_length, uint64_t *answers, size_t answers_length);
 
 #endif

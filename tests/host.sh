@@ -1,8 +1,10 @@
 #!/usr/bin/env bash
-# The judge called from C, against the outside model on random logs: host.sh [COUNT]. Not part of the gate.
+# What C can call, against the outside model: the judge on random logs, then both registers on random lists of calls: host.sh [LOGS [LISTS]].
+# Not part of the gate.
 set -euo pipefail
 cd "$(dirname "$0")/.."
 count=${1:-2000}
+lists=${2:-4000}
 out=$(mktemp -d)
 trap 'rm -rf "$out"' EXIT
 mkdir "$out/logs"
@@ -13,3 +15,4 @@ python3 tests/host_logs.py "$out/logs" "$count" > "$out/expected"
 "$out/host" "$out"/logs/*.log > "$out/given"
 cmp "$out/expected" "$out/given"
 echo "$count logs: C and the model agree ($(sort "$out/given" | uniq -c | awk '{printf "%s%s times %s", s, $1, $2; s = ", "}')); $SECONDS s"
+tests/registers.sh "$lists"

@@ -1,14 +1,14 @@
 #!/usr/bin/env python3
 """Outside model of the arrow register and its judge, written from document 01 alone, and from
-document 02 for the requests that have landed (card 6; card 9, with its report CS-R8704; card 13;
-card 4 changes nothing that is told here).
+document 02 for the requests that have landed (card 3; card 6; card 9, with its report CS-R8704;
+card 13; card 4 changes nothing that is told here).
 
     model.py bench              text on standard input, the bench's print on standard output
     model.py verdict            one line for the log whose bytes are on standard input
     model.py verdict FILE...    one line for each log file
-    model.py selftest           the sessions of document 01, brute force against the sweep, and
-                                the two definitions of card 9 on every log of a few rows, with
-                                the bands of card 13 and without
+    model.py selftest           the sessions of document 01, lists of calls of both registers,
+                                brute force against the sweep, and the two definitions of card 9
+                                on every log of a few rows, with the bands of card 13 and without
 
 The sections stand in the order of document 01, the buyer's scope. Quoted words are its
 own, or document 02's or the report's where that is said; “Open:” marks a choice where it
@@ -19,8 +19,8 @@ import random
 import re
 import sys
 from bisect import bisect_left
-from collections import namedtuple
-from dataclasses import dataclass, field
+from collections import Counter, namedtuple
+from dataclasses import dataclass, field, replace
 from itertools import count, product
 
 MAX_READERS = 16
@@ -63,6 +63,39 @@ def cell_index(n, i, j):
     return n * i + row.index(j)
 
 
+def cells_of(n):
+    """“The table has n²+n cells”."""
+    return n * n + n
+
+
+# The counted register (02, card 3), whose stamp is a number.
+
+LAST_STAMP = (1 << 32) - 1
+
+CountedCell = namedtuple('CountedCell', 'reading stamp')
+
+
+def pack_counted(cell):
+    """“reading 32 bits, stamp 32 bits” (02, card 3). Open: most significant first, too."""
+    return cell.reading << 32 | cell.stamp
+
+
+def unpack_counted(word):
+    """The inverse of pack_counted."""
+    return CountedCell(*divmod(word, 1 << 32))
+
+
+def counted_index(n, i, j):
+    """“no cell to the writer. Row i starts at n+(i−1)(n−1) for a reader; rows, and all stores, go
+    by rising reader” (02, card 3): the place of the cell from i to j."""
+    return j - 1 if i == 0 else n + (i - 1) * (n - 1) + others(n, i).index(j)
+
+
+def counted_cells_of(n):
+    """“its own table of n² cells” (02, card 3)."""
+    return n * n
+
+
 # ---------------------------------------------------------------------------- Register
 
 @dataclass
@@ -75,27 +108,25 @@ class Operation:
     seen: list = field(default_factory=list)  # cells read by the write or by this attempt
 
 
-class Register:
-    """One writer (processor 0) and readers 1..n over a lent table and a lent log.
+class Calls:
+    """What the registers share: one writer (processor 0) and readers 1..n over a lent table and a
+    lent log. A register tells its cells, what is fresh, and what each sub-step moves.
 
     Answers: ('refused', k), ('set up',), ('begun',), ('step', number). Question 4 is
     left out: nothing but these calls changes the state, and then it refuses nothing. It is
     asked of a state of any origin by in_range.
     """
 
-    def set_up(self, n, start, table, log):
-        """Questions 1 to 3, then “Fresh”, and “Set-up writes row 0 only”."""
+    def _set_up(self, n, start, cells, table, log):
+        """Questions 1 to 3; “Set-up writes row 0 only”."""
         if not 1 <= n <= MAX_READERS:
             return ('refused', 1)
-        if len(table) < n * n + n:
+        if len(table) < cells(n):
             return ('refused', 2)
         if not 3 <= len(log) <= MAX_ROWS:
             return ('refused', 3)
         self.n, self.table, self.log, self.used = n, table, log, 0
-        self.own = [FIRST_STAMP] + [NO_STAMP] * n
         self.open = [None] * (n + 1)
-        self.table[:n] = [pack_cell(Cell(start, FIRST_STAMP))] * n
-        self.table[n:n * n + n] = [pack_cell(Cell(0, NO_STAMP))] * (n * n)
         self._add_row(5, n, start)
         return ('set up',)
 
@@ -116,9 +147,15 @@ class Register:
         busy = sum(operation is not None for operation in self.open)
         if len(self.log) - self.used < busy + 2:
             return ('refused', 7)
+        if p == 0 and self._spent():
+            return ('refused', 14)
         self.open[p] = Operation(reading)
         self._add_row(kind, p, reading)
         return ('begun',)
+
+    def _spent(self):
+        """Whether no stamp is left for a write: only ever of the counted register."""
+        return False
 
     def step(self, p):
         """Questions 5 and 8, then one sub-step; “A step tells its own sub-step number”."""
@@ -134,10 +171,33 @@ class Register:
             self._read_step(p, operation)
         return ('step', operation.moved)
 
+    def _add_row(self, kind, p, reading):
+        self.log[self.used] = pack_row(kind, p, reading)
+        self.used += 1
+
+    def _end(self, p, kind, reading):
+        """The end row; “the processor is idle”."""
+        self._add_row(kind, p, reading)
+        self.open[p] = None
+
+
+class Register(Calls):
+    """The register of document 01."""
+
+    def set_up(self, n, start, table, log):
+        """As any set-up; then “Fresh”."""
+        answer = self._set_up(n, start, cells_of, table, log)
+        if answer == ('set up',):
+            self.own = [FIRST_STAMP] + [NO_STAMP] * n
+            table[:n] = [pack_cell(Cell(start, FIRST_STAMP))] * n
+            table[n:n * n + n] = [pack_cell(Cell(0, NO_STAMP))] * (n * n)
+        return answer
+
     # A write of v: 2n sub-steps
 
     def _write_step(self, write):
-        """“Sub-steps 1..n read the readers' cells”, “n+1..2n store v with the new stamp”."""
+        """“Sub-steps 1..n read the readers' cells”, “n+1..2n store v with the new stamp”; “the
+        write's or result's stamp becomes the processor's own”."""
         n, k = self.n, write.moved
         if k <= n:
             write.seen.append(self._load(k, 0))
@@ -146,7 +206,8 @@ class Register:
             write.stamp = (new_ticket(write.seen, self.own[0]), self.own[0][0])
         self._store(0, k - n, Cell(write.reading, write.stamp))
         if k == 2 * n:
-            self._end(0, write.stamp, 2, 0)
+            self.own[0] = write.stamp
+            self._end(0, 2, 0)
 
     # A read by reader i
 
@@ -176,25 +237,14 @@ class Register:
             self._store(i, others(self.n, i)[k - 1], Cell(shown, read.stamp))
         else:
             self._store(i, 0, Cell(0, read.stamp))
-            self._end(i, read.stamp, 4, read.reading)
-
-    # Words moved and rows added
+            self.own[i] = read.stamp
+            self._end(i, 4, read.reading)
 
     def _load(self, i, j):
         return unpack_cell(self.table[cell_index(self.n, i, j)])
 
     def _store(self, i, j, cell):
         self.table[cell_index(self.n, i, j)] = pack_cell(cell)
-
-    def _add_row(self, kind, p, reading):
-        self.log[self.used] = pack_row(kind, p, reading)
-        self.used += 1
-
-    def _end(self, p, stamp, kind, reading):
-        """“the write's or result's stamp becomes the processor's own; the processor is idle”."""
-        self._add_row(kind, p, reading)
-        self.own[p] = stamp
-        self.open[p] = None
 
 
 def new_ticket(cells, own):
@@ -208,14 +258,92 @@ def new_ticket(cells, own):
 
 def close_attempt(read):
     """After the third look: the result, or a second attempt."""
-    first, second, *helpers, third = read.seen
+    first, second, *shown, third = read.seen
     if first.stamp == second.stamp == third.stamp:
-        result = next((c for c in helpers if c.stamp[1] == third.stamp[0]), third)
+        result = next((c for c in shown if c.stamp[1] == third.stamp[0]), third)
         read.reading, read.stamp = result.reading, result.stamp
     elif read.attempt == 1:
         read.attempt, read.seen = 2, []
     else:
         read.reading, read.stamp = first.reading, NO_STAMP
+
+
+# ---------------------------------------------------------------------------- Counted register
+# Document 02, card 3, quoted here.
+
+class Counted(Calls):
+    """“a second register with its own table of n² cells”. The stamp is the writer's: that of its
+    last ended write. Readers have none of their own."""
+
+    def set_up(self, n, start, fresh, table, log):
+        """“The fresh stamp is handed over at set-up, …, and stands in every cell, with the start
+        reading in the writer's cells and 0 elsewhere.”"""
+        answer = self._set_up(n, start, counted_cells_of, table, log)
+        if answer == ('set up',):
+            self.stamp = fresh
+            table[:n] = [pack_counted(CountedCell(start, fresh))] * n
+            table[n:n * n] = [pack_counted(CountedCell(0, fresh))] * (n * n - n)
+        return answer
+
+    def _spent(self):
+        """“14, stamp 4,294,967,295 has been used, for a write's begin after question 7.” Open:
+        a fresh one counts as used."""
+        return self.stamp == LAST_STAMP
+
+    def _write_step(self, write):
+        """“A write adds 1 to the stamp and takes n sub-steps.”"""
+        self._store(0, write.moved, CountedCell(write.reading, self.stamp + 1))
+        if write.moved == self.n:
+            self.stamp += 1
+            self._end(0, 2, 0)
+
+    def _read_step(self, i, read):
+        """“A read looks at the other readers in rising order, then at the writer, …, stores it
+        to the others and takes 2n−1 sub-steps.”"""
+        n, k = self.n, read.moved
+        if k <= n:
+            source = others(n, i)[k - 1] if k < n else 0
+            read.seen.append(self._load(source, i))
+        else:
+            self._store(i, others(n, i)[k - n - 1], largest(read.seen))
+        if k == 2 * n - 1:
+            self._end(i, 4, largest(read.seen).reading)
+
+    def _load(self, i, j):
+        return unpack_counted(self.table[counted_index(self.n, i, j)])
+
+    def _store(self, i, j, cell):
+        self.table[counted_index(self.n, i, j)] = pack_counted(cell)
+
+
+def largest(seen):
+    """“takes the largest stamp (the writer's if equal, else the lowest reader)”: of the other
+    readers' cells in rising order and, last, the writer's."""
+    *shown, writers = seen
+    most = max(cell.stamp for cell in seen)
+    return next(cell for cell in [writers] + shown if cell.stamp == most)
+
+
+# ---------------------------------------------------------------------------- Calls as words
+# Open: how a list of calls is written for a host. A call: above, 1 begins a write, 2 begins a
+# read, 3 is a sub-step; below, the reading or the processor. An answer: above, the refusal number
+# or 0; below, the sub-step's number or 0.
+
+def answer_word(answer):
+    """An answer as a word."""
+    return answer[1] << 32 if answer[0] == 'refused' else answer[1] if answer[0] == 'step' else 0
+
+
+def make_calls(register, words, answers):
+    """Makes the calls up to the first word that is none, and as long as answers have places;
+    tells how many."""
+    makers = {1: register.begin_write, 2: register.begin_read, 3: register.step}
+    for made, word in enumerate(words):
+        kind, number = divmod(word, 1 << 32)
+        if kind not in makers or made == len(answers):
+            return made
+        answers[made] = answer_word(makers[kind](number))
+    return len(words)
 
 
 # ---------------------------------------------------------------------------- Log
@@ -524,18 +652,30 @@ class Range:
     log: int  # rows of this log
     rows: int  # the log's length as recorded
     used: int
-    own: list  # own stamps, of which those of processors 0..n count
     moved: dict  # the words moved by each open processor
+
+
+@dataclass
+class TicketRange(Range):
+    """And of the register of document 01."""
+    own: list  # own stamps, of which those of processors 0..n count
     second: set = field(default_factory=set)  # readers from their second attempt on
     barred: set = field(default_factory=set)  # by the cells that the open write has read
     ticket: int = NONE  # the open write's new ticket, once it is taken
 
 
-def sizes_in_range(state):
+@dataclass
+class CountedRange(Range):
+    """And of the counted register: the stamp of the writer's last ended write."""
+    stamp: int
+
+
+def sizes_in_range(state, cells):
     """“n 1 to 16; this table n²+n cells or more; this log as long as recorded, 3 to 4,096;
-    rows used 1 to that; free rows at least the open operations”."""
+    rows used 1 to that; free rows at least the open operations”; “questions 2 and 4 take n²
+    cells” (02, card 3)."""
     return (1 <= state.n <= MAX_READERS
-            and state.cells >= state.n * state.n + state.n
+            and state.cells >= cells(state.n)
             and state.log == state.rows
             and 3 <= state.rows <= MAX_ROWS
             and 1 <= state.used <= state.rows
@@ -567,9 +707,20 @@ def tickets_in_range(state):
     return len(state.barred | own) <= 2 + 3 * state.moved[0]
 
 
+def counted_in_range(state):
+    """“4 takes at most n−1 words moved in an open write, 2n−2 in an open read, and the stamp
+    before an open write below 4,294,967,295” (02, card 3)."""
+    n = state.n
+    return (all(moved <= (n - 1 if p == 0 else 2 * n - 2) for p, moved in state.moved.items())
+            and (0 not in state.moved or state.stamp < LAST_STAMP))
+
+
 def in_range(state):
     """Question 4."""
-    return sizes_in_range(state) and moved_in_range(state) and tickets_in_range(state)
+    if isinstance(state, CountedRange):
+        return sizes_in_range(state, counted_cells_of) and counted_in_range(state)
+    return (sizes_in_range(state, cells_of) and moved_in_range(state)
+            and tickets_in_range(state))
 
 
 def row_0_well_formed(row):
@@ -806,6 +957,14 @@ def fresh_register(n, start, spare=0, rows=MAX_ROWS):
     return register
 
 
+def fresh_counted(n, start, fresh, spare=0, rows=MAX_ROWS):
+    """The same of the counted register."""
+    register = Counted()
+    answer = register.set_up(n, start, fresh, [-1] * (n * n + spare), [-1] * rows)
+    equal(answer, ('set up',), 'set-up')
+    return register
+
+
 def register_log(pick, n, start, length, readings, burst):
     """A log of the register under a random schedule."""
     register = fresh_register(n, start)
@@ -839,6 +998,7 @@ def banded(pick, rows, width):
 
 def steps(register, p, times):
     """So many sub-steps of p; the last answer."""
+    answer = None
     for _ in range(times):
         answer = register.step(p)
     return answer
@@ -870,9 +1030,12 @@ def test_words():
         equal(pack_cell(unpack_cell(word)), word >> 8 << 8, 'cell')
         row = unpack_row(word)
         equal(pack_row(row.kind, row.processor, row.reading) | row.zero << 32, word, 'row')
+        equal(pack_counted(unpack_counted(word)), word, 'counted cell')
     for n in range(1, MAX_READERS + 1):
         places = [cell_index(n, i, j) for i in range(n + 1) for j in range(n + 1) if i != j]
-        equal(places, list(range(n * n + n)), f'places for {n} readers')
+        equal(places, list(range(cells_of(n))), f'places for {n} readers')
+        places = [counted_index(n, i, j) for i in range(n + 1) for j in others(n, i)]
+        equal(places, list(range(counted_cells_of(n))), f'counted places for {n} readers')
 
 
 def test_cell_sessions():
@@ -960,22 +1123,233 @@ def test_rules():
         equal(register.table[cell_index(2, 1, j)], pack_cell(Cell(0, NO_STAMP)), 'stamp none')
 
 
+def refuses_set_ups(set_up, cases):
+    """Questions 1 to 3: each set-up (readers, cells, rows) is refused its number."""
+    for n, cells, rows, number in cases:
+        answer = set_up(n, [0] * cells, [0] * rows)
+        equal(answer, ('refused', number), f'set-up with {n}, {cells}, {rows}')
+
+
+def refuses_strangers(register):
+    """Question 5, at both edges."""
+    for reader in (0, register.n + 1):
+        equal(register.begin_read(reader), ('refused', 5), 'begin of no reader')
+    equal(register.step(register.n + 1), ('refused', 5), 'sub-step of no processor')
+
+
 def test_register_questions():
     """Questions 1 to 3 and 5 to 8, each with a call that the next question would refuse."""
-    for n, cells, rows, number in ((0, 0, 2, 1), (17, 0, 2, 1), (2, 5, 2, 2),
-                                   (2, 6, 2, 3), (2, 6, MAX_ROWS + 1, 3)):
-        answer = Register().set_up(n, 7, [0] * cells, [0] * rows)
-        equal(answer, ('refused', number), f'set-up with {n}, {cells}, {rows}')
+    refuses_set_ups(lambda n, table, log: Register().set_up(n, 7, table, log), (
+        (0, 0, 2, 1), (17, 0, 2, 1), (2, 5, 2, 2), (2, 6, 2, 3), (2, 6, MAX_ROWS + 1, 3)))
     register = fresh_register(1, 7, rows=3)
-    for reader in (0, 2):
-        equal(register.begin_read(reader), ('refused', 5), 'begin of no reader')
-    equal(register.step(2), ('refused', 5), 'sub-step of no processor')
+    refuses_strangers(register)
     equal(register.step(1), ('refused', 8), 'sub-step of an idle reader')
     equal(register.begin_read(1), ('begun',), 'a log of 3: the one operation')
     equal(register.begin_read(1), ('refused', 6), 'begin of an open reader')
     equal(register.begin_write(1), ('refused', 7), 'a log of 3: a second open operation')
     equal(steps(register, 1, 5), ('step', 5), 'a log of 3: the end')
     equal(register.begin_write(1), ('refused', 7), 'a log of 3: the next begin')
+
+
+def table_text(register):
+    """All cells as the sessions show them."""
+    return ' '.join(cell_text(register, place) for place in range(len(register.table)))
+
+
+def whole_read(register, reader):
+    """A read of the counted register from its begin to its end; its result."""
+    equal(register.begin_read(reader), ('begun',), 'begin of a read')
+    words = 2 * register.n - 1
+    equal(steps(register, reader, words), ('step', words), 'last sub-step of a read')
+    return last_result(register)
+
+
+def test_counted_sessions():
+    """A write stopped half way, with two reads; the last stamp."""
+    register = fresh_counted(2, 7, 5)
+    equal(table_text(register), ' '.join(2 * ['0000000700000005'] + 2 * ['0000000000000005']),
+          'fresh cells')
+    equal(register.begin_write(9), ('begun',), 'begin of a write')
+    equal(steps(register, 0, 1), ('step', 1), 'the write stops')
+    for reader in (1, 2):
+        equal(whole_read(register, reader), 9, f'result of reader {reader}')
+    equal(steps(register, 0, 1), ('step', 2), 'last sub-step of the write')
+    equal(table_text(register), ' '.join(4 * ['0000000900000006']), 'cells at the end')
+    equal(register.log[:register.used],
+          log_of(2, 7, 'W 9, R 1, r 1 9, R 2, r 2 9, w'), 'rows of the log')
+
+    register = fresh_counted(1, 7, 4294967294)
+    equal(register.begin_write(9), ('begun',), 'begin of the last write')
+    equal(steps(register, 0, 1), ('step', 1), 'last sub-step of the last write')
+    equal(table_text(register), '00000009FFFFFFFF', 'the last stamp')
+    equal(register.begin_write(8), ('refused', 14), 'a write after the last stamp')
+    equal(whole_read(register, 1), 9, 'result after the last stamp')
+
+
+# Of a read by reader 2 of 3: the other readers' cells to it, the writer's, and the result.
+FOREIGN = [
+    ((1, 4), (3, 4), (7, 4), (7, 4)), ((1, 4), (3, 5), (7, 4), (3, 5)),
+    ((1, 5), (3, 4), (7, 4), (1, 5)), ((1, 5), (3, 5), (7, 4), (1, 5)),
+    ((1, 5), (3, 5), (7, 5), (7, 5)), ((1, 4), (3, 6), (7, 6), (7, 6)),
+    ((1, 6), (3, 5), (7, 6), (7, 6)), ((1, 0), (3, LAST_STAMP), (7, 1), (3, LAST_STAMP)),
+    ((9, 1), (8, 0), (0, 1), (0, 1)), ((1, 5), (3, 6), (7, 4), (3, 6)),
+]
+
+
+def test_counted_rules():
+    """Rules that no session shows, for reader 2 of 3, whose places are 5 and 6: which word each
+    sub-step moves, on tables of any origin, and in which order it looks."""
+    register = fresh_counted(3, 7, 5)
+    register.begin_write(9)
+    equal(changed_places(register, 0, 3), [0, 1, 2], 'stores of a write')
+    register.begin_read(2)
+    equal(changed_places(register, 2, 5), [None] * 3 + [5, 6], 'stores of a read')
+    equal(cell_text(register, 5), '0000000900000006', 'the result\'s cell')
+
+    for first, third, writers, result in FOREIGN:
+        register = fresh_counted(3, 7, 5)
+        for place, cell in ((3, first), (8, third), (1, writers)):
+            register.table[place] = pack_counted(CountedCell(*cell))
+        equal(whole_read(register, 2), result[0], 'reading of a foreign table')
+        for place in (5, 6):
+            equal(unpack_counted(register.table[place]), result, 'result on a foreign table')
+
+    for moved, reading in enumerate((13, 12, 11)):  # a cell is looked at no earlier, no later
+        for at, place in enumerate((3, 8, 1)):
+            register = fresh_counted(3, 7, 5)
+            register.begin_read(2)
+            steps(register, 2, moved)
+            register.table[place] = pack_counted(CountedCell(reading, 6))
+            steps(register, 2, 5 - moved)
+            equal(last_result(register), reading if moved <= at else 7, 'when a cell is looked at')
+
+
+def test_counted_questions():
+    """Questions 1 to 3, 5 to 8 and 14, each with a call that the next question would refuse;
+    question 4's edges."""
+    refuses_set_ups(lambda n, table, log: Counted().set_up(n, 7, 5, table, log), (
+        (0, 0, 2, 1), (17, 0, 2, 1), (2, 3, 2, 2), (16, 255, 2, 2), (2, 4, 2, 3),
+        (16, 256, MAX_ROWS + 1, 3)))
+    register = fresh_counted(2, 7, LAST_STAMP - 1, rows=7)
+    refuses_strangers(register)
+    equal(register.step(0), ('refused', 8), 'sub-step of an idle writer')
+    equal(register.begin_write(1), ('begun',), 'the last write')
+    equal(register.begin_write(2), ('refused', 6), 'a write while the last is open')
+    equal(steps(register, 0, 2), ('step', 2), 'the last write ends')
+    equal(register.begin_write(3), ('refused', 14), 'a write after the last')
+    equal(register.begin_read(1), ('begun',), 'a read after the last write')
+    equal(register.begin_write(3), ('refused', 14), 'a write when one more fits')
+    equal(register.begin_read(2), ('begun',), 'another read')
+    equal(register.begin_read(2), ('refused', 6), 'begin of an open reader')
+    equal(register.begin_write(3), ('refused', 7), 'a write after the last in a full log')
+    equal(steps(register, 1, 3), ('step', 3), 'the end of a read after the last write')
+    equal(register.begin_read(1), ('refused', 7), 'the next begin')
+
+    begun = CountedRange(n=2, cells=4, log=16, rows=16, used=3, moved={0: 1, 1: 2}, stamp=5)
+    equal(in_range(begun), True, 'a state at its edges')
+    for change in ({'cells': 3}, {'moved': {0: 2, 1: 2}}, {'moved': {0: 1, 1: 3}},
+                   {'stamp': LAST_STAMP}, {'used': 15}, {'n': 17}, {'log': 17}):
+        equal(in_range(replace(begun, **change)), False, f'out of range: {change}')
+    for change in ({'stamp': LAST_STAMP - 1}, {'stamp': LAST_STAMP, 'moved': {1: 2}}, {'used': 14}):
+        equal(in_range(replace(begun, **change)), True, f'in range: {change}')
+
+
+class Watched:
+    """A counted register, and what card 3 says of each call, told again from the calls."""
+
+    def __init__(self, n, start, fresh, rows):
+        self.register = fresh_counted(n, start, fresh, spare=2, rows=rows)
+        self.last = fresh  # stamp used
+        self.moved = {}  # words moved by each open processor
+        self.tally = Counter()
+
+    def call(self, letter, number):
+        """Makes the call, which must be answered as it is here."""
+        p = 0 if letter == 'W' else number
+        refusal = self.refusal(letter, p)
+        wanted = ('refused', refusal) if refusal else ('begun',)
+        if not refusal and letter == 'S':
+            self.moved[p] += 1
+            wanted = ('step', self.moved[p])
+        elif not refusal:
+            self.moved[p] = 0
+            self.last += letter == 'W'
+        operation = self.register.open[p] if p <= self.register.n else None
+        used = self.register.used
+        equal(getattr(self.register, MAKERS[letter])(number), wanted, f'{letter} {number}')
+        self.tally[refusal] += 1
+        if wanted[0] == 'step':
+            self.stepped(p, operation, self.register.used - used)
+        else:
+            equal(self.register.used - used, int(wanted[0] == 'begun'), 'rows added')
+
+    def refusal(self, letter, p):
+        """The number of the first question that is answered no, or 0."""
+        register = self.register
+        free = len(register.log) - register.used
+        if not (letter == 'R') <= p <= register.n:
+            return 5
+        if letter == 'S':
+            return 0 if p in self.moved else 8
+        if p in self.moved:
+            return 6
+        if free < len(self.moved) + 2:
+            return 7
+        return 14 if letter == 'W' and self.last == LAST_STAMP else 0
+
+    def stepped(self, p, operation, added):
+        """A write ends at n, a read at 2n−1; “the largest stamp a read meets is the one it finds
+        at the writer or one more”."""
+        n = self.register.n
+        ended = self.moved[p] == (n if p == 0 else 2 * n - 1)
+        equal(added, int(ended), 'rows added by a sub-step')
+        if p > 0 and self.moved[p] == n:
+            stamps = [cell.stamp for cell in operation.seen]
+            more = max(stamps) - stamps[-1]
+            must(more in (0, 1), 'the largest stamp is the writer\'s or one more')
+            self.tally['one more'] += more
+        if ended:
+            equal(unpack_row(self.register.log[self.register.used - 1]).kind, 4 if p else 2, 'end')
+            self.tally['ended after the last'] += p > 0 and self.last == LAST_STAMP
+            del self.moved[p]
+
+    def left(self):
+        """What the list leaves: a log with an order, a state in range, and the rest untouched."""
+        register, n = self.register, self.register.n
+        equal(judge(register.log[:register.used])[0], 'order', 'log of the counted register')
+        must(set(register.log[register.used:]) <= {-1}, 'further rows untouched')
+        must(set(register.table[n * n:]) == {-1}, 'further cells untouched')
+        stamps = [unpack_counted(word).stamp for word in register.table[:n * n]]
+        must(max(stamps) <= self.last, 'stamps of the table')
+        state = CountedRange(n, n * n + 2, len(register.log), len(register.log), register.used,
+                             self.moved, register.stamp)
+        must(in_range(state), 'question 4')
+
+
+MAKERS = {'W': 'begin_write', 'R': 'begin_read', 'S': 'step'}
+
+
+def test_counted():
+    """Random lists of calls, refused ones among them: bursts of one processor, begins and
+    sub-steps of any."""
+    pick = random.Random(4).randrange
+    tally = Counter()
+    for trial in range(1200):
+        n = 1 + trial % 5 if trial % 4 else 1 + pick(MAX_READERS)
+        fresh = (0, 5, LAST_STAMP - pick(9), pick(1 << 32))[pick(4)]
+        watched = Watched(n, pick(4), fresh, 3 + pick((8, 40, 400)[pick(3)]))
+        burst = 1 + pick(3 * n)
+        for _ in range(20 + pick(60)):
+            p = pick(n + 2)
+            if pick(4):
+                watched.call(*(('W', pick(4)) if p == 0 else ('R', p)))
+            for _ in range(1 + pick(burst)):
+                watched.call('S', p)
+        watched.left()
+        tally += watched.tally + Counter(lists=1)
+    must(min(tally[k] for k in (0, 5, 6, 7, 8, 14, 'one more', 'ended after the last')) > 100,
+         'every answer is common')
+    return tally['lists'], sum(tally[k] for k in (0, 5, 6, 7, 8, 14))
 
 
 JUDGE_SESSIONS = [
@@ -1155,6 +1529,11 @@ def selftest():
     test_judge_questions()
     test_bench()
     test_register()
+    test_counted_sessions()
+    test_counted_rules()
+    test_counted_questions()
+    lists, calls = test_counted()
+    print(f'counted register: {lists} lists of {calls} calls, every log with an order')
     tally = test_judges()
     print(f'two definitions agree on all {test_definitions()} small logs')
     print(f"brute force and sweep agree: {tally['order']} orders, {tally['refused']} refusals")

@@ -14,7 +14,7 @@ sys.dont_write_bytecode = True
 
 from bench_inputs import EXAMPLE, bench_inputs
 from draw import listed, picture
-from model import bench, bytes_of, log_of
+from model import Counted, MAX_ROWS, bench, bytes_of, log_of
 from soak import soak_lines
 from trials_expected import trials_lines
 from verdict_logs import STANDARD_INPUT, expected, verdict_logs
@@ -54,12 +54,29 @@ def examples():
         yield path.stem + '.out', print_.encode()
         if path.stem == 'patroller':
             yield path.stem + '.svg', picture(print_).encode()
+    yield 'counted.out', lines_of(counted((ROOT / 'examples/counted.calls').read_text()))
     for name, rows in SOUNDER_LOGS.items():
         data = bytes_of(rows)
         line = expected(name, data) + '\n'
         yield name + '.log', data
         yield name + '.out', line.encode()
         yield name + '.svg', picture(listed(data) + line).encode()
+
+
+def counted(text):
+    """What examples/counted.c prints for its calls."""
+    first, *calls = text.splitlines()
+    n, start, fresh = map(int, first.split())
+    register = Counted()
+    register.set_up(n, start, fresh, [0] * (n * n), [0] * MAX_ROWS)
+    makers = {'W': register.begin_write, 'R': register.begin_read, 'S': register.step}
+    told = {'begun': 'begun', 'step': 'sub-step {}', 'refused': 'refused {}'}
+    for call in calls:
+        letter, number = call.split()
+        what, *value = makers[letter](int(number))
+        yield f'{call}: {told[what].format(*value)}'
+    yield ' '.join(['cells', *(f'{word:016X}' for word in register.table)])
+    yield ' '.join(['rows', *(f'{word:016X}' for word in register.log[:register.used])])
 
 
 def lines_of(lines):

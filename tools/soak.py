@@ -1,18 +1,18 @@
 #!/usr/bin/env python3
-"""What the program soak prints, by the outside model: random lists of calls for every number
-of readers, and a checksum of all that they leave.
+"""What the program soak prints, by the outside model: random lists of calls of both registers
+for every number of readers, and a checksum of all that they leave.
 
     soak.py [ROUNDS]
 
-For each n from 1 to 16 it runs so many rounds, 4 if no number is given, and prints a line.
-A round is a set-up, a list of calls, and the judge on the used rows.
+For each n from 1 to 16 it runs so many rounds of each, 4 if no number is given, and prints a line
+for each. A round is a set-up, a list of calls, and the judge on the used rows.
 """
 
 import sys
 
 sys.dont_write_bytecode = True
 
-from model import Register, judge
+from model import LAST_STAMP, Counted, Register, judge, make_calls
 
 WORD = (1 << 64) - 1
 MARK = WORD  # what buffers hold before anything is written to them
@@ -86,21 +86,31 @@ class Source:
         return WRITE | self.pick(4) if self.processor == 0 else READ | self.processor
 
 
-def answer_word(answer):
-    """Above the refusal number, below the sub-step's."""
-    return answer[1] << 32 if answer[0] == 'refused' else answer[1] if answer[0] == 'step' else 0
+def fresh_stamp(kind, word):
+    """Of the counted register: 0, 5, one of the last 4, or any."""
+    return (0, 5, LAST_STAMP - word % 4, word)[kind]
 
 
-def round_of(n, seed, sum_):
-    """A round, folded: the answers, the whole table and log, the judge's answer, the order."""
-    source = Source(n, seed)
-    register = Register()
-    register.set_up(n, source.start, [MARK] * CELLS, [MARK] * source.rows)
-    makers = {WRITE: register.begin_write, READ: register.begin_read, STEP: register.step}
-    for word in source.calls():
-        number = word & 0xFFFFFFFF
-        sum_ = fold(sum_, answer_word(makers[word - number](number)))
-    for word in register.table + register.log + [register.used]:
+def set_up(counted, source):
+    """A register of either sort, and the calls that the source has for it."""
+    table, log = [MARK] * CELLS, [MARK] * source.rows
+    if not counted:
+        register = Register()
+        register.set_up(source.n, source.start, table, log)
+        return register, source.calls()
+    register = Counted()
+    fresh = fresh_stamp(source.pick(4), source.pick(1 << 32))
+    register.set_up(source.n, source.start, fresh, table, log)
+    return register, source.calls()
+
+
+def round_of(counted, n, seed, sum_):
+    """A round, folded: the answers, the whole table and log, the rows used, the judge's answer and
+    the order."""
+    register, words = set_up(counted, Source(n, seed))
+    answers = [MARK] * len(words)
+    make_calls(register, words, answers)
+    for word in answers + register.table + register.log + [register.used]:
         sum_ = fold(sum_, word)
     answer = judge(register.log[:register.used])
     order = answer[1] if answer[0] == 'order' else []
@@ -111,10 +121,11 @@ def round_of(n, seed, sum_):
 
 def soak_lines(rounds=4):
     for n in range(1, 17):
-        sum_ = SEED
-        for k in range(rounds):
-            sum_ = round_of(n, SEED ^ (n << 32 | k), sum_)
-        yield f'n {n}: {sum_:016x}'
+        for counted in (False, True):
+            sum_ = SEED
+            for k in range(rounds):
+                sum_ = round_of(counted, n, SEED ^ (n << 32 | k), sum_)
+            yield f'{"counted " if counted else ""}n {n}: {sum_:016x}'
 
 
 if __name__ == '__main__':

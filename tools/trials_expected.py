@@ -8,8 +8,9 @@ nothing”.
 from dataclasses import replace
 
 from model import (
-    FIRST_STAMP, NO_STAMP, Range, Register, bytes_of, call_line, in_range, judge, judge_bytes,
-    log_of, pack_row)
+    FIRST_STAMP, LAST_STAMP, NO_STAMP, Counted, CountedCell, CountedRange, Register, TicketRange,
+    bytes_of, call_line, counted_index, in_range, judge, judge_bytes, log_of, pack_counted,
+    pack_row)
 from verdict_logs import OPEN_READ, OPEN_WRITE, START
 
 MARK = (1 << 64) - 1  # what buffers hold before anything is written to them
@@ -30,7 +31,11 @@ def call_text(call, answer):
 
 def set_up_line(n, cells, rows):
     table, log = [MARK] * cells, [MARK] * rows
-    answer = answer_text(Register().set_up(n, 7, table, log))
+    return set_up_text(n, Register().set_up(n, 7, table, log), table, log)
+
+
+def set_up_text(n, answer, table, log):
+    cells, rows, answer = len(table), len(log), answer_text(answer)
     written = [sum(word != MARK for word in words) for words in (table, log)]
     return (f'set-up with {n} readers, {cells} cells, {rows} rows: {answer}, '
             f'cells written {written[0]}, rows written {written[1]}')
@@ -48,12 +53,17 @@ def script_line(n, rows, text):
     """The answer to each call, calls as the bench reads them; and the order of the rows."""
     register = Register()
     register.set_up(n, 7, [MARK] * (n * n + n), [MARK] * rows)
+    calls = calls_text(register, text)
+    return f'readers {n}, rows {rows}{calls}; log{log_text(register.log[:register.used], 16)}'
+
+
+def calls_text(register, text):
     makers = {b'W': register.begin_write, b'R': register.begin_read, b'S': register.step}
-    line = f'readers {n}, rows {rows}'
+    line = ''
     for call in filter(None, text.split(', ')):
         letter, number = call_line(call.encode())
         line += call_text(call, makers[letter](number))
-    return f'{line}; log{log_text(register.log[:register.used], 16)}'
+    return line
 
 
 SCRIPTS = [
@@ -84,7 +94,7 @@ def sessions():
 # Question 4
 
 # A fresh state of two readers; and that after W 9, R 1, S 0, S 1.
-FRESH = Range(
+FRESH = TicketRange(
     n=2, cells=306, log=16, rows=16, used=1, own=[FIRST_STAMP] + [NO_STAMP] * 16, moved={})
 BEGUN = replace(FRESH, used=3, moved={0: 1, 1: 1})
 
@@ -113,13 +123,19 @@ def stamp(p, cur, prev):
     return f'processor {p}, stamp {cur} {prev}', replace(BEGUN, own=own)
 
 
+def heads(fresh, begun, needed):
+    """Of either register: sizes and rows, where two readers need so many cells."""
+    yield from ((f'n {n}', replace(begun, n=n)) for n in (0, 1, 2, 16, 17, 4294967295))
+    yield from ((f'cells {cells}', replace(begun, cells=cells)) for cells in (needed - 1, needed))
+    yield from ((f'rows lent {rows}', replace(begun, log=rows)) for rows in (15, 17))
+    for rows in (2, 3, 4096, 4097):
+        yield f'fresh, rows {rows}', replace(fresh, rows=rows, log=rows)
+    yield from ((f'fresh, rows used {used}', replace(fresh, used=used)) for used in (0, 16, 17))
+    yield from ((f'rows used {used}', replace(begun, used=used)) for used in (14, 15))
+
+
 RANGES = [
-    *((f'n {n}', replace(BEGUN, n=n)) for n in (0, 1, 2, 16, 17, 4294967295)),
-    *((f'cells {cells}', replace(BEGUN, cells=cells)) for cells in (5, 6)),
-    *((f'rows lent {rows}', replace(BEGUN, log=rows)) for rows in (15, 17)),
-    *((f'fresh, rows {rows}', replace(FRESH, rows=rows, log=rows)) for rows in (2, 3, 4096, 4097)),
-    *((f'fresh, rows used {used}', replace(FRESH, used=used)) for used in (0, 16, 17)),
-    *((f'rows used {used}', replace(BEGUN, used=used)) for used in (14, 15)),
+    *heads(FRESH, BEGUN, 6),
     write(3, [], 63), write(4, [], 63), write(255, [], 63),
     read(0, 6), read(0, 7), read(1, 4), read(1, 5), read(1, 11), read(1, 12),
     stamp(0, 63, 63), stamp(0, 64, 1), stamp(0, 0, 64),
@@ -131,11 +147,12 @@ RANGES = [
     write(2, range(2, 8), 63), write(2, range(2, 9), 63),
     write(3, range(2, 10), 63),
     unstamped(1, range(0, 5)), unstamped(1, range(0, 6)),
+    (f'count {LAST_STAMP}', BEGUN),  # the counted register's
 ]
 
 
 def answer_with(state, letter, p):
-    """Questions 4 to 8, and the sub-step's number: “the words this operation has moved”."""
+    """Questions 4 to 8 and 14, and the sub-step's number: “the words this operation has moved”."""
     if not in_range(state):
         return ('refused', 4)
     if not (1 if letter == 'R' else 0) <= p <= state.n:
@@ -146,6 +163,8 @@ def answer_with(state, letter, p):
         return ('refused', 6)
     if state.rows - state.used < len(state.moved) + 2:
         return ('refused', 7)
+    if letter == 'W' and isinstance(state, CountedRange) and state.stamp == LAST_STAMP:
+        return ('refused', 14)
     return ('begun',)
 
 
@@ -153,6 +172,123 @@ def range_line(name, state):
     """Five calls, each with the same state."""
     calls = ('W 5', 'W', 0), ('R 2', 'R', 2), ('S 0', 'S', 0), ('S 1', 'S', 1), ('S 99', 'S', 99)
     return name + ''.join(call_text(call, answer_with(state, *made)) for call, *made in calls)
+
+
+# The counted register
+
+def counted_set_up_line(n, fresh, cells, rows):
+    table, log = [MARK] * cells, [MARK] * rows
+    answer = Counted().set_up(n, 7, fresh, table, log)
+    return f'counted from {fresh}, ' + set_up_text(n, answer, table, log)
+
+
+COUNTED_SET_UPS = [
+    (0, 5, 0, 0), (17, 5, 0, 4097), (4294967295, 5, 306, 4096),
+    (1, 5, 0, 3), (2, 5, 3, 3), (2, 5, 0, 2), (16, 5, 255, 4096), (16, 5, 255, 4097),
+    (1, 5, 1, 0), (16, 5, 306, 2), (16, 5, 256, 4097),
+    (1, 0, 1, 3), (1, 5, 306, 4096), (2, LAST_STAMP - 1, 4, 3), (16, 5, 256, 4096),
+    (16, LAST_STAMP, 306, 3),
+]
+
+
+def hex_text(words):
+    return ''.join(f' {word:016x}' for word in words)
+
+
+def counted_text(register, text):
+    """The cells, the answer to each call, the cells and rows they leave, and the order."""
+    cells = hex_text(register.table)
+    calls = calls_text(register, text)
+    used = register.log[:register.used]
+    return (f'; cells{cells}{calls}; cells{hex_text(register.table)}; '
+            f'log{hex_text(used)}{log_text(used, 16)}')
+
+
+def counted_script_line(n, fresh, rows, text):
+    """Calls of a fresh register."""
+    register = Counted()
+    register.set_up(n, 7, fresh, [MARK] * (n * n), [MARK] * rows)
+    return f'counted from {fresh}, readers {n}, rows {rows}' + counted_text(register, text)
+
+
+def cells_set_line(*cells):
+    """A read by reader 3 of 3 that finds these cells of the writer and of readers 1 and 2."""
+    register = Counted()
+    register.set_up(3, 7, 5, [MARK] * 9, [MARK] * 16)
+    for i, cell in enumerate(cells):
+        register.table[counted_index(3, i, 3)] = pack_counted(CountedCell(*cell))
+    calls = counted_text(register, 'R 3, S 3, S 3, S 3, S 3, S 3')
+    return f'counted from 5, readers 3, rows 16, cells set{calls}'
+
+
+COUNTED_SESSIONS = [
+    (2, 5, 16, 'W 9, S 0, R 1, S 1, S 1, S 1, R 2, S 2, S 2, S 2, S 0'),
+    (1, LAST_STAMP - 1, 16, 'W 9, S 0, W 8, R 1, S 1'),
+]
+
+COUNTED_SCRIPTS = [
+    (3, 5, 16, 'R 2, S 2, W 9, S 0, R 1, S 1, S 1, S 1, S 1, S 1, S 2, S 2, S 2, S 2'),
+    (3, 5, 16, 'R 2, S 2, S 2, W 9, S 0, S 0, S 2, S 2, S 2'),
+    (3, 5, 16, 'W 9, S 0, S 0, R 2, S 2, S 2, S 2, S 2'),
+    (3, 5, 16, 'R 0, R 4, R 4294967295, S 4, S 4294967295, R 3, S 3'),
+    (1, 5, 3, 'R 1, R 0, R 2, S 2, S 0, W 5'),
+    (2, 5, 16, 'W 1, W 2, R 2, R 2, S 2, R 2, S 0, W 3'),
+    (2, 5, 5, 'W 1, R 1, W 2, R 1, R 2'),
+    (2, 5, 16, 'S 0, S 1, S 2, W 1, S 0, S 0, S 0'),
+    (1, 5, 16, 'R 1, S 1, S 1, R 1'),
+    (3, 5, 16, 'R 2, S 2, S 2, S 2, S 2, S 2, S 2'),
+    (2, 5, 4, 'W 1, R 1, S 0, S 0, R 1'),
+    (3, 5, 6, 'R 3, R 1, R 2, W 5'),
+    (3, 5, 7, 'R 3, R 1, R 2, W 5'),
+    (3, LAST_STAMP - 1, 7, 'W 9, W 8, S 0, S 0, S 0, W 8, R 1, W 8, R 1, R 2, W 8, R 3, R 2, '
+                           'S 1, S 1, S 1, S 1, S 1, R 1'),
+    (2, LAST_STAMP, 16, 'W 5, R 1, W 5, S 1, S 1, S 1, W 5, R 2, S 2, S 2, S 2'),
+    (2, LAST_STAMP - 2, 16, 'W 1, S 0, S 0, W 2, S 0, S 0, W 3, R 2, S 2, S 2, S 2, R 2, S 2'),
+]
+
+# “the largest stamp (the writer's if equal, else the lowest reader)”: reading and stamp of each.
+CELLS_SET = [
+    ((7, 5), (1, 9), (2, 9)), ((3, 9), (1, 9), (2, 9)), ((7, 5), (1, 9), (2, 10)),
+]
+
+# A fresh state of two readers with fresh stamp 5; that after W 9, R 1, S 0, S 1; and one that has
+# spent its stamps.
+COUNTED_FRESH = CountedRange(n=2, cells=306, log=16, rows=16, used=1, moved={}, stamp=5)
+COUNTED_BEGUN = replace(COUNTED_FRESH, used=3, moved={0: 1, 1: 1})
+SPENT = replace(COUNTED_FRESH, stamp=LAST_STAMP)
+
+
+def counted_write(moved, name=''):
+    return f'{name}write moved {moved}', replace(COUNTED_BEGUN, moved={0: moved, 1: 1})
+
+
+def counted_read(moved, name=''):
+    return f'{name}read moved {moved}', replace(COUNTED_BEGUN, moved={0: 1, 1: moved})
+
+
+COUNTED_RANGES = [
+    *heads(COUNTED_FRESH, COUNTED_BEGUN, 4),
+    *map(counted_write, (0, 1, 2, 255)), *map(counted_read, (0, 2, 3, 255)),
+    *((f'stamp {stamp}', replace(COUNTED_BEGUN, stamp=stamp))
+      for stamp in (0, LAST_STAMP - 1, LAST_STAMP)),
+    *((f'fresh, stamp {stamp}', replace(COUNTED_FRESH, stamp=stamp))
+      for stamp in (LAST_STAMP - 1, LAST_STAMP)),
+    *((f'fresh, stamp spent, rows used {used}', replace(SPENT, used=used)) for used in (14, 15)),
+    # What the first register alone has; there is no reader 3.
+    *(counted_write(moved, 'with tickets, ') for moved in (0, 1, 2)),
+    ('fresh, with tickets, write moved 255', COUNTED_FRESH),
+    *(counted_read(moved, 'second attempt, ') for moved in (0, 2, 3)),
+    ('fresh, second attempt, read moved 255', COUNTED_FRESH),
+    ('reader 3 open', COUNTED_BEGUN),
+]
+
+
+def counted_lines():
+    yield from (counted_script_line(*script) for script in COUNTED_SESSIONS)
+    yield from (counted_set_up_line(*sizes) for sizes in COUNTED_SET_UPS)
+    yield from (counted_script_line(*script) for script in COUNTED_SCRIPTS)
+    yield from (cells_set_line(*cells) for cells in CELLS_SET)
+    yield from (range_line(f'counted, {name}', state) for name, state in COUNTED_RANGES)
 
 
 # The judge
@@ -175,7 +311,7 @@ def number(data):
 
 
 def log_line(rows, places):
-    return 'log' + ''.join(f' {row:016x}' for row in rows) + log_text(rows, places)
+    return 'log' + hex_text(rows) + log_text(rows, places)
 
 
 def lengths():
@@ -236,6 +372,7 @@ def trials_lines():
     yield from (set_up_line(*sizes) for sizes in SET_UPS)
     yield from (script_line(*script) for script in SCRIPTS)
     yield from (range_line(*state) for state in RANGES)
+    yield from counted_lines()
     yield from lengths()
     yield from (log_line(rows, 0) for rows in MALFORMED)
     for places, text in ORDERS:

@@ -4,12 +4,12 @@ use super::text::print_bad;
 use super::text::print_listing;
 use super::text::print_refusals;
 use super::text::print_refused;
+use common::Answer;
+use common::numbers::refusal_number;
 use lines::fields::NONE;
 use lines::fields::first_in;
 use lines::fields::place_of;
 use lines::script::read_calls;
-use protocol::Answer;
-use register::run::refusal_number;
 ghost use Prim.Native.Nat.{_≤_};
 
 // The listing and the order of the log's rows; or the bad line behind the calls, if there is one.
@@ -32,7 +32,7 @@ fn run_calls(readers: u32, start: u32, words: &[u64], bad: u64) {
     let answer = ran.answer;
     let calls = ran.calls;
     let state = calls.state;
-    let used = state.used;
+    let used = state.head.used;
     match answer {
         Answer::Accepted => {
             print_refusals(&answers);

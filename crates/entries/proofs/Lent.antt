@@ -34,12 +34,12 @@ use denote.Steps.{owned, facts, heard, nothing}
 use denote.Struct.Steps.{spelt}
 use denote.Struct.Laws as SL
 use denote.Enum.Laws as EL
-use Rattle.protocol.specs.declared.State.{State}
-use Rattle.protocol.specs.declared.Answer.{Answer}
-use Rattle.protocol.proofs.State as T
-use Rattle.protocol.proofs.State.Laws as T′
-use Rattle.protocol.proofs.Answer as N
-use Rattle.protocol.proofs.Answer.Laws as N′
+use Rattle.common.specs.declared.State.{State}
+use Rattle.common.specs.declared.Answer.{Answer}
+use Rattle.common.proofs.State as T
+use Rattle.common.proofs.State.Laws as T′
+use Rattle.common.proofs.Answer as N
+use Rattle.common.proofs.Answer.Laws as N′
 use Rattle.register.specs.declared.calls.Called.{Called}
 use Rattle.register.proofs.calls.Called as D
 use Rattle.register.proofs.calls.Called.Laws as D′

@@ -1,5 +1,5 @@
 // A begin of any processor, by value.
-use protocol::State;
+use common::State;
 use register::calls::Called;
 ghost use mathlib.Core.Path.{_≡_};
 ghost use Rattle.register.specs.Contract.{outcome};

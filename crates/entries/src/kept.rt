@@ -1,12 +1,11 @@
 // The entries over a state that is kept in a local and lent to them. No parameter is a lent record, so a caller of these needs no proof
 // by hand.
-use protocol::State;
+use common::State;
 use register::calls::Called;
 ghost use mathlib.Core.Path.{_≡_};
-ghost use Rattle.protocol.specs.Answers.{reply};
-ghost use Rattle.protocol.specs.Calls.{stepOf};
+ghost use Rattle.common.specs.Answers.{reply};
 ghost use Rattle.register.specs.Contract.{outcome};
-ghost use Rattle.entries.specs.Contract.{beginOf};
+ghost use Rattle.entries.specs.Contract.{beginOf, stepOf};
 
 // Processor p begins.
 pub fn begin(s: State, table: &mut [u64], log: &mut [u64], p: u32, value: u32) -> Called

@@ -3,12 +3,11 @@
 mod by_value; // a begin of any processor, by value
 pub mod kept; // the entries over a state in a local
 
-use protocol::Answer;
-use protocol::State;
+use common::Answer;
+use common::State;
 ghost use mathlib.Core.Path.{_≡_};
-ghost use Rattle.protocol.specs.Answers.{reply};
-ghost use Rattle.protocol.specs.Calls.{stepOf};
-ghost use Rattle.entries.specs.Contract.{beginOf, left};
+ghost use Rattle.common.specs.Answers.{reply};
+ghost use Rattle.entries.specs.Contract.{beginOf, stepOf, left};
 
 // Processor p begins: the writer, 0, a write of the value, and a reader a read.
 pub fn begin(state: &mut State, table: &mut [u64], log: &mut [u64], p: u32, value: u32) -> Answer

@@ -25,3 +25,5 @@ pub mod Shrinking
 pub mod Chosen
 pub mod Full
 pub mod Theorems
+pub mod Packed
+pub mod Formed

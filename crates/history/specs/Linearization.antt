@@ -1,5 +1,5 @@
 -- An order of a history's operations: document 01's "order", by begin rows.
-use Prim.Native.Nat.{ℕ, suc, zero, _<_}
+use Prim.Native.Nat.{ℕ, suc, zero, _≤_, _<_}
 use mathlib.Core.Path.{_≡_}
 use mathlib.Core.Logic.{_⊎_}
 use mathlib.Core.List.{List}
@@ -38,3 +38,9 @@ Orders log l = Linearization (historyOf log) (length log) l
 pub record FullOrder (h : History) (l : List ℕ) : Type 0 where
   pub order : Linearization h (h .len) l
   pub all-writes : (w : ℕ) → Write h w → (i : ℕ) × Stands l i w
+
+-- in an order o of a log: of two operations, one before the other, the later stands behind the same write or a later one
+abbrev pub NeverOlder : List ℕ → List ℕ → Type 0
+NeverOlder log o =
+    (i j r s : ℕ) → Stands o i r → Stands o j s → Precedes (historyOf log) r s
+    → lastWrite (historyOf log) o i ≤ lastWrite (historyOf log) o j

@@ -1,48 +1,52 @@
--- Whatever calls are made from a fresh register, the judge answers its log with 0: it has an order, and is atomic by both reports.
+-- Whatever calls are made from a fresh register, of either kind, the judge answers its log with 0: it has an order, and is atomic by both
+-- reports.
 use Prim.Native.Nat.{ℕ, _^_, _<_}
 use mathlib.Core.Path.{_≡_, sym, subst}
 use mathlib.Core.List.{List}
 use native.Mathlib.Omega.{arith}
-use lib.ListN.{take}
 use Rattle.judge.specs.Answer.{numberOf}
-use Rattle.history.specs.Regular.{IsAtomic}
-use Rattle.history.specs.Shrinking.{IsAtomicRun}
 use Rattle.judge.specs.Meaning.{Formed}
 use Rattle.judge.proofs.Meaning.{number-if-ordered, number-by-reports}
-use Rattle.protocol.specs.declared.Answer.the-variants.{Accepted}
-use Rattle.protocol.specs.SetUp.{setUpOf}
-use Rattle.protocol.specs.Reference.{Call}
-use Rattle.protocol.specs.Runs.{ranFrom}
-use Rattle.protocol.specs.Whole.{LowCalls, modelOf}
-use Rattle.protocol.proofs.Range.{test-range}
-use Rattle.protocol.proofs.Whole.{whole}
+use Rattle.common.specs.declared.Answer.the-variants.{Accepted}
+use Rattle.common.specs.Calls.{Call, LowCalls}
+use Rattle.common.specs.Rules.{Rules}
+use Rattle.common.specs.SetUp.{setUpOf}
+use Rattle.common.specs.Register.{ranFrom}
+use Rattle.common.specs.Book.{Telling}
+use Rattle.common.specs.Whole.{modelOf, AsBook}
+use Rattle.common.proofs.Range.{test-range}
+use Rattle.protocol.specs.Rules.{ticketRules}
+use Rattle.protocol.proofs.Whole.{whole as tickets-whole}
+use Rattle.counted.specs.Rules.{countedRules}
+use Rattle.counted.proofs.Whole.{whole as counted-whole}
+use Rattle.joined.specs.Accepted.{used, Accepted as IsAccepted}
 
-module _ (n v : ℕ) (t l : List ℕ) (cs : List Call) (e : setUpOf n v t l .answer ≡ Accepted) (v-low : v < 2 ^ 32) (low : LowCalls cs) where
+module _ {Stamp Cell : Type 0} (R : Rules) (B : Telling Stamp Cell) (n v fresh : ℕ) (t l : List ℕ) (cs : List Call) (w : AsBook R B n v fresh t l cs) where
   abbrev inModel : List ℕ
-  inModel = modelOf n v l cs .model .rows
-
-  -- the used rows, as the calls leave them
-  abbrev used : List ℕ
-  used = take (ranFrom n v t l cs .state .used) (ranFrom n v t l cs .log)
+  inModel = modelOf B n v fresh l cs .model .rows
 
   formed : Formed inModel
   formed =
-      let w = whole n v t l cs e v-low low in
-      let k = test-range (ranFrom n v t l cs .state) _ _ (w .passes-4) in
+      let k = test-range R (ranFrom R n v fresh t l cs .state) _ _ (w .passes-4) .head-ok in
       record {
         size = record { some = omega (arith, w .used-is, k .used-low); few = omega (arith, w .used-is, k .room, k .rows-high) };
         formed = w .formed;
       }
 
   number-0 : numberOf inModel ≡ 0
-  number-0 = number-if-ordered inModel .1 (record { log-ok = formed; order = whole n v t l cs e v-low low .ordered })
+  number-0 = number-if-ordered inModel .1 (record { log-ok = formed; order = w .ordered })
 
-  atomic-0 : IsAtomic inModel × IsAtomicRun inModel
-  atomic-0 = let R = number-by-reports inModel formed in (R .cs-r8704 .0 number-0, R .cs-r8628 .0 number-0)
+  accepts : IsAccepted (used R n v fresh t l cs)
+  accepts =
+      subst IsAccepted (sym (w .rows-are))
+      (let A = number-by-reports inModel formed in record { judged-0 = number-0; atomic = (A .cs-r8704 .0 number-0, A .cs-r8628 .0 number-0) })
 
-  pub judged-0 : numberOf used ≡ 0
-  judged-0 = subst (λ (rows : List ℕ). numberOf rows ≡ 0) (sym (whole n v t l cs e v-low low .rows-are)) number-0
+-- of the first register
+pub tickets : (n v : ℕ) (t l : List ℕ) (cs : List Call) → setUpOf ticketRules n v 0 t l .answer ≡ Accepted → v < 2 ^ 32 → LowCalls cs
+    → IsAccepted (used ticketRules n v 0 t l cs)
+tickets n v t l cs e low lows = accepts ticketRules _ n v 0 t l cs (tickets-whole n v t l cs e low lows .as-book)
 
-  -- "A register is atomic if each of its runs is atomic." (report CS-R8628): each of its logs is, by both reports.
-  pub atomic : IsAtomic used × IsAtomicRun used
-  atomic = subst (λ (rows : List ℕ). IsAtomic rows × IsAtomicRun rows) (sym (whole n v t l cs e v-low low .rows-are)) atomic-0
+-- of the counted register
+pub counted : (n v fresh : ℕ) (t l : List ℕ) (cs : List Call) → fresh < 2 ^ 32 → setUpOf countedRules n v fresh t l .answer ≡ Accepted → v < 2 ^ 32
+    → LowCalls cs → IsAccepted (used countedRules n v fresh t l cs)
+counted n v fresh t l cs fresh-low e low lows = accepts countedRules _ n v fresh t l cs (counted-whole n v fresh t l cs fresh-low e low lows .as-book)

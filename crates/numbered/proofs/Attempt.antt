@@ -14,7 +14,7 @@ to r ph = record { o = r .o; a = r .a; ph = ph }
 
 module _ (n : ℕ) (c : ℕ → ℕ) where
   -- A step that changes reader i's own data only.
-  local : (s : St) (me : ℕ → Reader) (i : ℕ) (r : Reader) → Inv n c s me → (i < n → Ok n c s i r) → Inv n c s (upd me i r)
+  pub local : (s : St) (me : ℕ → Reader) (i : ℕ) (r : Reader) → Inv n c s me → (i < n → Ok n c s i r) → Inv n c s (upd me i r)
   local s me i r v ok = record {
     next = v .next;
     next2 = v .next2;
@@ -56,7 +56,7 @@ module _ (n : ℕ) (c : ℕ → ℕ) where
     fresh q h m a b (inl e) = rw e (v .next q (omega arith))
     fresh q h m a b (inr e) = let e′ : m ≡ suc (suc q) = omega arith in rw e′ (v .next2 q (omega arith))
 
-    hope-start : (p k : ℕ) (y : ℕ → ℕ) → ((j : ℕ) → j ≢ i → k ≤ j) → Reach n c s i p → Hope n c s i p k y
+    pub hope-start : (p k : ℕ) (y : ℕ → ℕ) → ((j : ℕ) → j ≢ i → k ≤ j) → Reach n c s i p → Hope n c s i p k y
     hope-start p k y low (inl h) = inl h
     hope-start p k y low (inr (j, r)) = inr (j, r, λ h. absurd (omega (arith, low j (r .other))))
 

@@ -6,3 +6,6 @@ pub mod Attempt
 pub mod Third
 pub mod Stores
 pub mod Start
+pub mod Log
+pub mod Peers
+pub mod Distinct

@@ -1,6 +1,6 @@
 -- The fresh register meets the invariant.
 use mathlib.Core.Path.{_≡_, refl}
-use mathlib.Core.Logic.{inl}
+use mathlib.Core.Logic.{_≢_, inl}
 use mathlib.Core.List.{[]}
 use Prim.Native.Nat.{ℕ}
 use native.Mathlib.Omega.{arith}
@@ -12,9 +12,9 @@ fresh-st = record { K = 1; D = 1; F = 1; wk = 0; B = []; w = λ _. 1; x = λ _ _
 abbrev pub fresh-me : ℕ → Reader
 fresh-me i = record { o = 0; a = 0; ph = rest }
 
-pub start-inv : (n : ℕ) (c : ℕ → ℕ) → c 0 ≡ 1 → c 1 ≡ 0 → Inv n c fresh-st fresh-me
-start-inv n c e0 e1 = record {
-  next = λ k h e. let g : k ≡ 0 = omega arith in let e′ : c 1 ≡ c 0 = (rw g at e) in omega arith;
+pub start-inv : (n : ℕ) (c : ℕ → ℕ) → c 1 ≢ c 0 → Inv n c fresh-st fresh-me
+start-inv n c ne = record {
+  next = λ k h. let g : k ≡ 0 = omega arith in rw g ne;
   next2 = λ k h. absurd (omega arith);
   D-pos = omega arith;
   D-K = omega arith;

@@ -74,17 +74,18 @@ module _ (n : ℕ) (c : ℕ → ℕ) where
         kept-up = λ q b kp. record { fresh = kp .fresh; saw = saw i q b kp (eq-or i k) };
       }
 
-  -- The writer takes its ticket: any that is not barred.
+  -- The writer takes its ticket: any that differs from its own cur and prev and from all that readers keep.
   abbrev pub w-ticket : St → St
   w-ticket s = record { K = suc (s .K); D = s .D; F = s .F; wk = 0; B = []; w = s .w; x = s .x }
 
-  pub w-ticket-inv : (s : St) (me : ℕ → Reader) → Inv n c s me → s .wk ≡ suc n → ¬ List·Memᴰ (c (suc (s .K))) (s .B) → Inv n c (w-ticket s) me
-  w-ticket-inv s me v e free = record {
+  pub w-new-inv : (s : St) (me : ℕ → Reader) → Inv n c s me → s .K ≡ s .D → c (suc (s .K)) ≢ c (s .K) → c (suc (s .K)) ≢ c (pred (s .K)) →
+      ((i q : ℕ) → i < n → q ≤ s .K → Kept n c s i q → c (suc (s .K)) ≢ c q) → Inv n c (w-ticket s) me
+  w-new-inv s me v e cur prv other = record {
     next = λ k h. next k h (eq-or k (s .K));
     next2 = λ k h. next2 k h (eq-or (suc k) (s .K));
     D-pos = v .D-pos;
     D-K = omega arith;
-    K-D = omega (arith, z .0);
+    K-D = omega arith;
     D-F = v .D-F;
     F-K = omega arith;
     D-w = v .D-w;
@@ -93,22 +94,16 @@ module _ (n : ℕ) (c : ℕ → ℕ) where
     rd = λ i h. ok-up n c s (w-ticket s) i (me i) (later i h) (λ j _. refl) (reach-up n c s (w-ticket s) i _ _ (later i h) _ (v .rd i h .reach)) (v .rd i h);
   }
     where
-      z : (s .K ≡ s .D) × List·Memᴰ (c (s .K)) (s .B) × List·Memᴰ (c (pred (s .K))) (s .B)
-      z = v .writer (omega arith)
-
-      clash : (q : ℕ) → List·Memᴰ (c q) (s .B) → c (suc (s .K)) ≢ c q
-      clash q m f = free (subst (λ (t : ℕ). List·Memᴰ t (s .B)) (sym f) m)
-
       next : (k : ℕ) → suc k ≤ suc (s .K) → (k ≡ s .K) ⊎ (k ≢ s .K) → c (suc k) ≢ c k
-      next k h (inl f) = rw f (clash (s .K) (z .1))
+      next k h (inl f) = rw f cur
       next k h (inr f) = v .next k (omega arith)
 
       next2 : (k : ℕ) → suc (suc k) ≤ suc (s .K) → (suc k ≡ s .K) ⊎ (suc k ≢ s .K) → c (suc (suc k)) ≢ c k
-      next2 k h (inl f) = let g : k ≡ pred (s .K) = omega arith in rw (f, g) (clash (pred (s .K)) (z .2))
+      next2 k h (inl f) = let g : k ≡ pred (s .K) = omega arith in rw (f, g) prv
       next2 k h (inr f) = v .next2 k (omega arith)
 
       fresh : (i q : ℕ) → i < n → Kept n c s i q → (m : ℕ) → q < m → m ≤ suc (s .K) → (m ≡ suc (s .K)) ⊎ (m ≢ suc (s .K)) → c m ≢ c q
-      fresh i q h kp m a b (inl f) = rw f (clash q (kp .saw (omega arith)))
+      fresh i q h kp m a b (inl f) = rw f (other i q h (omega arith) kp)
       fresh i q h kp m a b (inr f) = kp .fresh m a (omega arith)
 
       later : (i : ℕ) → i < n → Later n c s (w-ticket s) i (me i .o) (me i .a)
@@ -120,6 +115,15 @@ module _ (n : ℕ) (c : ℕ → ℕ) where
         cov-up = λ j _ _ p g. g;
         kept-up = λ q b kp. record { fresh = λ m l u. fresh i q h kp m l u (eq-or m (suc (s .K))); saw = λ g. absurd (omega arith) };
       }
+
+  -- Any that is not barred, once it has read all the cells.
+  pub w-ticket-inv : (s : St) (me : ℕ → Reader) → Inv n c s me → s .wk ≡ suc n → ¬ List·Memᴰ (c (suc (s .K))) (s .B) → Inv n c (w-ticket s) me
+  w-ticket-inv s me v e free =
+      let z = v .writer (omega arith) in
+      w-new-inv s me v (z .0) (clash (s .K) (z .1)) (clash (pred (s .K)) (z .2)) (λ i q h _ kp. clash q (kp .saw (omega arith)))
+    where
+      clash : (q : ℕ) → List·Memᴰ (c q) (s .B) → c (suc (s .K)) ≢ c q
+      clash q m f = free (subst (λ (t : ℕ). List·Memᴰ t (s .B)) (sym f) m)
 
   -- The writer stores to reader i.
   abbrev pub w-store : St → ℕ → St

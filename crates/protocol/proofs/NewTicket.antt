@@ -9,9 +9,9 @@ use native.Mathlib.Omega.{arith}
 use lib.ListN.{length}
 use lib.Dec.{eqb}
 use borrow.Author.Tests.{eq-eqb, eqb-true}
-use Rattle.words.proofs.Laws.Choice.{pick-ind, never}
 use Rattle.words.specs.declared.stamp.Stamp.{Stamp}
 use Rattle.words.specs.declared.cell.Cell.{Cell}
+use Rattle.words.proofs.Laws.Choice.{pick-ind, never}
 use Rattle.protocol.specs.Reference.{isIn, firstFree, newTicket, excludedTickets}
 
 -- the test, and membership

@@ -1,68 +1,34 @@
 -- A sub-step of an attempt keeps the reader's record the digest of the book's cells.
-use Prim.Native.Nat.{ℕ, zero, suc, _+_, _-_, _≤_, _<_}
+use Prim.Native.Nat.{ℕ, suc, _+_, _-_, _≤_, _<_}
 use mathlib.Core.Path.{_≡_, refl, sym, ap, _∙_}
 use mathlib.Core.List.{List, [], _∷_, _++_}
 use mathlib.Core.Bool.{Bool, true, false, not, _&&_, _||_}
 use native.Mathlib.Omega.{arith}
-use lib.ListN.{length, length-append, List·getD-append}
-use lib.Seq.{getD-at}
+use lib.ListN.{length, length-append}
 use lib.Dec.{ltb, eqb}
-use borrow.Author.Tests.{eqb-true, lt-ltb, le-ltb, le-leb}
+use borrow.Author.Tests.{eqb-true, lt-ltb, le-ltb}
 use Rattle.words.specs.declared.cell.Cell.{Cell}
 use Rattle.words.specs.Choice.{pick}
 use Rattle.words.specs.Stamp.{none, same}
 use Rattle.words.specs.Cell.{packCell, unpackCell}
 use Rattle.words.proofs.Laws.Choice.{pick-two, pick-yes, pick-no, left, right}
 use Rattle.words.proofs.Laws.Cell.{unpack-pack}
-use Rattle.protocol.specs.declared.Reader.{Reader}
+use Rattle.common.specs.declared.Reader.{Reader}
+use Rattle.common.specs.State.{valueIn}
 use Rattle.protocol.specs.Table.{plain}
-use Rattle.protocol.specs.Read.{stampIn, valueIn, looksFirst, counted, looksAgain, looksAtOther, looksThird}
-use Rattle.protocol.specs.Reference.{void, nth, alike, firstWith, agree, Result, resultOf, failed}
-use Rattle.protocol.proofs.ReaderRel.{resultIn, reads, Trying, RRel, failed-early}
-
--- One cell more.
-nth-old : (cells : List Cell) (c : Cell) (k : ℕ) → k < length cells → nth (cells ++ (c ∷ [])) k ≡ nth cells k
-nth-old cells c k h = List·getD-append cells (c ∷ []) void k h
-
-nth-new : (cells : List Cell) (c : Cell) (k : ℕ) → length cells ≡ k → nth (cells ++ (c ∷ [])) k ≡ c
-nth-new cells c k h = getD-at cells c [] void k h
-
-first-old : (cells : List Cell) (c : Cell) (t : ℕ) (d : Cell) (k r : ℕ) → k + r ≤ length cells
-    → firstWith (cells ++ (c ∷ [])) t d k r ≡ firstWith cells t d k r
-unfolding firstWith
-first-old cells c t d k zero h = refl
-first-old cells c t d k (suc r) h = rw (nth-old cells c k (omega arith), first-old cells c t d (suc k) r (omega arith))
-
--- The last cell is asked last.
-first-last : (cells : List Cell) (t : ℕ) (d : Cell) (k r : ℕ)
-    → firstWith cells t d k (suc r) ≡ firstWith cells t (pick (eqb (nth cells (k + r) .stamp .prev) t) (nth cells (k + r)) d) k r
-unfolding firstWith
-first-last cells t d k zero = let e : k + 0 ≡ k = omega arith in rw e
-first-last cells t d k (suc r) = let e : k + suc r ≡ suc k + r = omega arith in rw (e, ← first-last cells t d (suc k) r)
-
-first-none : (cells : List Cell) (t : ℕ) (d : Cell) (k r : ℕ) → r ≡ 0 → firstWith cells t d k r ≡ d
-unfolding firstWith
-first-none cells t d k r e = rw e
+use Rattle.protocol.specs.Read.{stampIn, looksFirst, movedOn, looksAgain, looksAtOther, looksThird}
+use Rattle.protocol.specs.Reference.{nth, alike, firstWith, agree, Result, resultOf, failed}
+use Rattle.protocol.proofs.Seen.{nth-old, nth-new, first-old, first-last, first-none, failed-early, failed-late, agree-old}
+use Rattle.protocol.proofs.ReaderRel.{resultIn, reads, Trying, RRel}
 
 -- The word of a failed read's value.
 value-low : (w : ℕ) → valueIn w < 4294967296
-unfolding unpackCell
 value-low w = omega arith
 
 none-in : (w : ℕ) → resultIn (packCell (plain (valueIn w) none)) ≡ record { value = valueIn w; stamp = none }
+unfolding unpackCell
 none-in w =
     ap (λ (c : Cell). record { value = c .value; stamp = c .stamp }) (unpack-pack (plain (valueIn w) none) (omega (arith, value-low w)))
-
-module _ (n : ℕ) where
-  failed-late : (m : ℕ) (cells : List Cell) → n + 3 ≤ m → failed n m cells ≡ not (agree n cells 0)
-  failed-late m cells h = rw (le-leb (n + 3) m h)
-
-  pub failed-keep : (m : ℕ) (cells : List Cell) (b : Bool) → n + 3 ≤ m → failed n m cells ≡ b → failed n (m + 1) cells ≡ b
-  failed-keep m cells b h e = failed-late (m + 1) cells (omega arith) ∙ sym (failed-late m cells h) ∙ e
-
-  agree-old : (cells : List Cell) (c : Cell) (a : ℕ) → a + (n + 1) < length cells → agree n (cells ++ (c ∷ [])) a ≡ agree n cells a
-  agree-old cells c a h =
-      rw (nth-old cells c a (omega arith), nth-old cells c (a + 1) (omega arith), nth-old cells c (a + (n + 1)) h)
 
 -- A sub-step of an attempt that is not its last: what is to show.
 module _ (n : ℕ) (nl : 1 ≤ n) (r : Reader) (m : ℕ) (cells : List Cell) (R : RRel n r m cells) (h : R .l < n + 3) where
@@ -133,9 +99,9 @@ module _ (n : ℕ) (nl : 1 ≤ n) (r : Reader) (m : ℕ) (cells : List Cell) (R 
     agree-more : R .late ≡ true → agree n (cells ++ (unpackCell w ∷ [])) 0 ≡ agree n cells 0
     agree-more e = agree-old n cells c 0 (omega (arith, first-cells e))
 
-    pub rel-first : R .l ≡ 0 → RRel n (looksFirst (counted r) w) (m + 1) (cells ++ (unpackCell w ∷ []))
+    pub rel-first : R .l ≡ 0 → RRel n (looksFirst (movedOn r) w) (m + 1) (cells ++ (unpackCell w ∷ []))
     rel-first z =
-        on (looksFirst (counted r) w) (cells ++ (c ∷ [])) (omega arith) refl refl refl agree-more
+        on (looksFirst (movedOn r) w) (cells ++ (c ∷ [])) (omega arith) refl refl refl agree-more
         (let q : length cells ≡ a = omega (arith, Tr .length-is, reads-low (R .l) (omega arith)) in
         record {
           length-is = omega (arith, more, q, reads-low (R .l + 1) (omega arith));
@@ -144,9 +110,9 @@ module _ (n : ℕ) (nl : 1 ≤ n) (r : Reader) (m : ℕ) (cells : List Cell) (R 
           found-is = λ _ d. sym (first-none (cells ++ (c ∷ [])) _ (unpackCell d) (a + 2) (R .l + 1 - 3) (omega arith));
         })
 
-    pub rel-again : R .l ≡ 2 → RRel n (looksAgain (counted r) w) (m + 1) (cells ++ (unpackCell w ∷ []))
+    pub rel-again : R .l ≡ 2 → RRel n (looksAgain (movedOn r) w) (m + 1) (cells ++ (unpackCell w ∷ []))
     rel-again z =
-        on (looksAgain (counted r) w) (cells ++ (c ∷ [])) (omega arith) refl refl refl agree-more
+        on (looksAgain (movedOn r) w) (cells ++ (c ∷ [])) (omega arith) refl refl refl agree-more
         (let q : length cells ≡ a + 1 = omega (arith, Tr .length-is, reads-is (R .l) (omega arith)) in
         let o : nth (cells ++ (c ∷ [])) a ≡ nth cells a = nth-old cells c a (omega arith) in
         record {
@@ -169,9 +135,9 @@ module _ (n : ℕ) (nl : 1 ≤ n) (r : Reader) (m : ℕ) (cells : List Cell) (R 
     pick-cell true x y = refl
     pick-cell false x y = refl
 
-    pub rel-other : 3 ≤ R .l → R .l < n + 2 → RRel n (looksAtOther (counted r) w) (m + 1) (cells ++ (unpackCell w ∷ []))
+    pub rel-other : 3 ≤ R .l → R .l < n + 2 → RRel n (looksAtOther (movedOn r) w) (m + 1) (cells ++ (unpackCell w ∷ []))
     rel-other z y =
-        on (looksAtOther (counted r) w) (cells ++ (c ∷ [])) (omega arith) refl refl refl agree-more
+        on (looksAtOther (movedOn r) w) (cells ++ (c ∷ [])) (omega arith) refl refl refl agree-more
         (let q : length cells ≡ a + (R .l - 1) = omega (arith, Tr .length-is, reads-is (R .l) (omega arith)) in
         let o : nth (cells ++ (c ∷ [])) a ≡ nth cells a = nth-old cells c a (omega arith) in
         let x : nth (cells ++ (c ∷ [])) (a + 2 + (R .l - 3)) ≡ c = nth-new cells c (a + 2 + (R .l - 3)) (omega arith) in
@@ -195,9 +161,9 @@ module _ (n : ℕ) (nl : 1 ≤ n) (r : Reader) (m : ℕ) (cells : List Cell) (R 
               );
         })
 
-  pub rel-announced : R .l ≡ 1 → RRel n (counted r) (m + 1) cells
+  pub rel-announced : R .l ≡ 1 → RRel n (movedOn r) (m + 1) cells
   rel-announced z =
-      on (counted r) cells (omega arith) refl refl refl (λ _. refl)
+      on (movedOn r) cells (omega arith) refl refl refl (λ _. refl)
       (record {
         length-is = omega (arith, Tr .length-is, reads-low (R .l) (omega arith), reads-is (R .l + 1) (omega arith));
         look-is = λ _. Tr .look-is (omega arith);
@@ -225,8 +191,8 @@ module _ (n : ℕ) (nl : 1 ≤ n) (r : Reader) (m : ℕ) (cells : List Cell) (R 
     equal-is =
         rw (Tr .agree-is (omega arith), look-cur (omega arith), look-prev (omega arith), new, old, nth-old cells (unpackCell w) (a + 1) (omega (arith, long)))
 
-    result-is : resultIn (looksThird (counted r) w .result) ≡ resultOf n cells′ a
-    unfolding resultOf
+    result-is : resultIn (looksThird (movedOn r) w .result) ≡ resultOf n cells′ a
+    unfolding resultOf unpackCell
     result-is =
         rw equal-is
         (pick-two (λ (x : ℕ) (y : Result). resultIn x ≡ y) (agree n cells′ a) _ _ _ _
@@ -242,7 +208,7 @@ module _ (n : ℕ) (nl : 1 ≤ n) (r : Reader) (m : ℕ) (cells : List Cell) (R 
         rw new (ap (λ (x : Cell). record { value = x .value; stamp = x .stamp }) f))
         (λ _. none-in (r .look) ∙ rw old (ap (λ (x : Cell). record { value = x .value; stamp = none }) (Tr .look-is (omega arith)))))
 
-    pub rel-third : RRel n (looksThird (counted r) w) (m + 1) cells′
+    pub rel-third : RRel n (looksThird (movedOn r) w) (m + 1) cells′
     rel-third = by (R .late) refl
       where
         -- the first attempt
@@ -255,10 +221,10 @@ module _ (n : ℕ) (nl : 1 ≤ n) (r : Reader) (m : ℕ) (cells : List Cell) (R 
         equal0 : R .late ≡ false → (r .agree && same (stampIn (r .look)) (stampIn w)) ≡ agree n cells′ 0
         equal0 e = equal-is ∙ ap (agree n cells′) (fresh e)
 
-        second′ : (b : Bool) → R .late ≡ false → agree n cells′ 0 ≡ b → looksThird (counted r) w .second ≡ not b
+        second′ : (b : Bool) → R .late ≡ false → agree n cells′ 0 ≡ b → looksThird (movedOn r) w .second ≡ not b
         second′ b e f = rw (equal0 e, f, R .second-is, e)
 
-        by-equal : R .late ≡ false → (b : Bool) → agree n cells′ 0 ≡ b → RRel n (looksThird (counted r) w) (m + 1) cells′
+        by-equal : R .late ≡ false → (b : Bool) → agree n cells′ 0 ≡ b → RRel n (looksThird (movedOn r) w) (m + 1) cells′
         by-equal e true f = record {
           late = false;
           l = R .l + 1;
@@ -287,7 +253,7 @@ module _ (n : ℕ) (nl : 1 ≤ n) (r : Reader) (m : ℕ) (cells : List Cell) (R 
           storing = λ q. absurd (omega arith);
         }
 
-        by : (b : Bool) → R .late ≡ b → RRel n (looksThird (counted r) w) (m + 1) cells′
+        by : (b : Bool) → R .late ≡ b → RRel n (looksThird (movedOn r) w) (m + 1) cells′
         by true e = record {
           late = R .late;
           l = R .l + 1;

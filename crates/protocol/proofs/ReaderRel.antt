@@ -1,18 +1,21 @@
 -- A reader's record is the digest of the cells that the book has of its read; each turn keeps it so.
-use Prim.Native.Nat.{ℕ, _+_, _-_, _*_, _≤_, _<_}
+use Prim.Native.Nat.{ℕ, _+_, _-_, _≤_, _<_}
 use mathlib.Core.Path.{_≡_, refl}
-use mathlib.Core.List.{List, [], _++_}
+use mathlib.Core.List.{List, []}
 use mathlib.Core.Bool.{Bool, true, false}
 use native.Mathlib.Omega.{arith}
 use lib.ListN.{length}
 use lib.Dec.{ltb}
-use borrow.Author.Tests.{lt-leb}
+use Rattle.words.specs.declared.stamp.Stamp.{Stamp}
 use Rattle.words.specs.declared.cell.Cell.{Cell}
 use Rattle.words.specs.Choice.{pick}
 use Rattle.words.specs.Cell.{unpackCell}
-use Rattle.protocol.specs.declared.Reader.{Reader}
-use Rattle.protocol.specs.Read.{ReadStep, stampIn, valueIn}
-use Rattle.protocol.specs.Reference.{Operation, idle, open-with, Turn, isOpen, nth, alike, firstWith, agree, Result, resultOf, failed}
+use Rattle.common.specs.declared.Reader.{Reader}
+use Rattle.common.specs.State.{valueIn}
+use Rattle.common.specs.Book.{idle, open-with}
+use Rattle.protocol.specs.Read.{stampIn}
+use Rattle.protocol.specs.Reference.{Operation, nth, alike, firstWith, agree, Result, resultOf, failed}
+use Rattle.protocol.proofs.Seen.{failed-early}
 
 -- the value and stamp in a word
 abbrev pub resultIn : ℕ → Result
@@ -45,15 +48,10 @@ abbrev pub ReaderRel : ℕ → Reader → Operation → Type 0
 ReaderRel n r idle = r .active ≡ false
 ReaderRel n r (open-with v m cells) = RRel n r m cells
 
-pub record RTurnRel (n : ℕ) (X : List ℕ) (q : ReadStep) (x : Turn) : Type 0 where
-  pub table-is : q .table ≡ x .table ++ X
-  pub size-is : length (x .table) ≡ n * n + n
-  pub stamp-is : q .reader .stamp ≡ x .stamp
-  pub op : ReaderRel n (q .reader) (x .op)
-  pub value-is : isOpen (x .op) ≡ false → valueIn (q .reader .result) ≡ x .value
-
-pub failed-early : (n m : ℕ) (cells : List Cell) → m < n + 3 → failed n m cells ≡ false
-failed-early n m cells h = rw (lt-leb (n + 3) m h)
+-- a reader stands for a stamp and an operation of the book
+pub record RIs (n : ℕ) (r : Reader) (st : Stamp) (q : Operation) : Type 0 where
+  pub stamp-is : r .stamp ≡ st
+  pub op : ReaderRel n r q
 
 -- A read that has just begun.
 pub rel-opened : (n : ℕ) (r : Reader) → r .active ≡ true → r .moved ≡ 0 → r .second ≡ false → RRel n r 0 []

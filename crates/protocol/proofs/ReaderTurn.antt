@@ -8,18 +8,25 @@ use Rattle.words.specs.declared.stamp.Stamp.{Stamp}
 use Rattle.words.specs.declared.cell.Cell.{Cell}
 use Rattle.words.specs.Choice.{pick}
 use Rattle.words.specs.Cell.{unpackCell}
-use Rattle.words.specs.Index.{Pair}
+use Rattle.words.specs.Index.{Pair, other}
 use Rattle.words.proofs.Laws.Choice.{lt-two, eq-two, never}
-use Rattle.protocol.specs.declared.Reader.{Reader}
-use Rattle.protocol.specs.Table.{store, other}
-use Rattle.protocol.specs.Read.{ReadStep, looksFirst, counted, looksAgain, looksAtOther, looksThird, wordAt, attemptStep, resultStep, since, readStep}
-use Rattle.protocol.specs.Reference.{Turn, resultOf, failed, readsFrom, storesTo, attemptTurn, resultTurn, readTurn}
-use Rattle.protocol.proofs.Table.{word-front, store-front, other-valid}
-use Rattle.protocol.proofs.ReaderRel.{RRel, RTurnRel}
-use Rattle.protocol.proofs.ReaderAttempt.{failed-keep, rel-first, rel-announced, rel-again, rel-other, rel-third}
+use Rattle.words.proofs.Laws.Index.{other-valid}
+use Rattle.common.specs.declared.Reader.{Reader}
+use Rattle.common.specs.Rules.{ReadStep}
+use Rattle.common.proofs.Lawful.{RTurnRel}
+use Rattle.common.proofs.Places.{word-front, store-front}
+use Rattle.protocol.specs.Table.{store}
+use Rattle.protocol.specs.Read.{looksFirst, movedOn, looksAgain, looksAtOther, looksThird, wordAt, attemptStep, resultStep, since, readStep}
+use Rattle.protocol.specs.Reference.{Turn, resultOf, failed, readsFrom, storesTo, attemptTurn, resultTurn, readTurn, book}
+use Rattle.protocol.specs.Rules.{ticketRules}
+use Rattle.protocol.proofs.Table.{places}
+use Rattle.protocol.proofs.Seen.{failed-keep}
+use Rattle.protocol.proofs.ReaderRel.{RRel, RIs}
+use Rattle.protocol.proofs.WriterRel.{WIs}
+use Rattle.protocol.proofs.ReaderAttempt.{rel-first, rel-announced, rel-again, rel-other, rel-third}
 
 -- A store.
-rel-put : (n : ℕ) (r : Reader) (m : ℕ) (cells : List Cell) (R : RRel n r m cells) → n + 3 ≤ R .l → RRel n (counted r) (m + 1) cells
+rel-put : (n : ℕ) (r : Reader) (m : ℕ) (cells : List Cell) (R : RRel n r m cells) → n + 3 ≤ R .l → RRel n (movedOn r) (m + 1) cells
 rel-put n r m cells R h = record {
   late = R .late;
   l = R .l + 1;
@@ -35,27 +42,26 @@ rel-put n r m cells R h = record {
 module _ (n p : ℕ) (nl : 1 ≤ n) (p1 : 1 ≤ p) (pn : p ≤ n) (T X : List ℕ) (size : length T ≡ n * n + n) (r : Reader) (st : Stamp) (m : ℕ)
     (cells : List Cell) (R : RRel n r m cells) (stamp-is : r .stamp ≡ st) where
   abbrev P : ReadStep → Turn → Type 0
-  P = RTurnRel n X
+  P = RTurnRel ticketRules book WIs RIs n X
 
   from-writer : wordAt n (T ++ X) 0 p ≡ wordAt n T 0 p
-  from-writer = word-front n T X size 0 p (omega arith)
+  from-writer = word-front (places n) T X size 0 p (omega arith)
 
   to-writer : Pair n p 0
   to-writer = omega arith
 
   -- A word read, in the longer table.
-  looks : (f : Reader → ℕ → Reader) (q : ℕ) → wordAt n (T ++ X) q p ≡ wordAt n T q p → ((w : ℕ) → f (counted r) w .stamp ≡ r .stamp)
-      → ((w : ℕ) → RRel n (f (counted r) w) (m + 1) (cells ++ (unpackCell w ∷ [])))
-      → P (record { reader = f (counted r) (wordAt n (T ++ X) q p); table = T ++ X }) (readsFrom n p T st m cells q)
-  looks f q e es k = rw e (record { table-is = refl; size-is = size; stamp-is = es _ ∙ stamp-is; op = k (wordAt n T q p); value-is = λ e. never e })
+  looks : (f : Reader → ℕ → Reader) (q : ℕ) → wordAt n (T ++ X) q p ≡ wordAt n T q p → ((w : ℕ) → f (movedOn r) w .stamp ≡ r .stamp)
+      → ((w : ℕ) → RRel n (f (movedOn r) w) (m + 1) (cells ++ (unpackCell w ∷ [])))
+      → P (record { reader = f (movedOn r) (wordAt n (T ++ X) q p); table = T ++ X }) (readsFrom n p T st m cells q)
+  looks f q e es k = rw e (record { table-is = refl; size-is = size; is = record { stamp-is = es _ ∙ stamp-is; op = k (wordAt n T q p) }; value-is = λ e. never e })
 
-  stores-word : (q : ℕ) (c d : Cell) → c ≡ d → Pair n p q → RRel n (counted r) (m + 1) cells
-      → P (record { reader = counted r; table = store n (T ++ X) p q c }) (storesTo n p T st m cells q d)
+  stores-word : (q : ℕ) (c d : Cell) → c ≡ d → Pair n p q → RRel n (movedOn r) (m + 1) cells
+      → P (record { reader = movedOn r; table = store n (T ++ X) p q c }) (storesTo n p T st m cells q d)
   stores-word q c d e v R′ = record {
-    table-is = store-front n T X size p q v c ∙ ap (λ (y : Cell). store n T p q y ++ X) e;
+    table-is = store-front (places n) T X size p q v c ∙ ap (λ (y : Cell). store n T p q y ++ X) e;
     size-is = simp length-set size;
-    stamp-is = stamp-is;
-    op = R′;
+    is = record { stamp-is = stamp-is; op = R′ };
     value-is = λ e. never e;
   }
 
@@ -72,7 +78,7 @@ module _ (n p : ℕ) (nl : 1 ≤ n) (p1 : 1 ≤ p) (pn : p ≤ n) (T X : List �
       (λ g.
       let o = other-valid n p (R .l - 3) p1 pn (omega arith) in
       looks looksAtOther (other p (R .l - 3))
-      (word-front n T X size (other p (R .l - 3)) p (record { from = o .1; dest = pn; apart = λ e. o .2 (sym e) }))
+      (word-front (places n) T X size (other p (R .l - 3)) p (record { from = o .1; dest = pn; apart = λ e. o .2 (sym e) }))
       (λ _. refl) (λ w. rel-other n nl r m cells R h w (omega arith) g))
       (λ g. looks looksThird 0 from-writer (λ _. refl) (λ w. rel-third n nl r m cells R h w (omega arith)))
 
@@ -87,10 +93,9 @@ module _ (n p : ℕ) (nl : 1 ≤ n) (p1 : 1 ≤ p) (pn : p ≤ n) (T X : List �
       let o = other-valid n p (R .l - (n + 3)) p1 pn g in
       stores-word (other p (R .l - (n + 3))) _ _ refl (record { from = pn; dest = o .1; apart = o .2 }) (rel-put n r m cells R h))
       (λ g. record {
-        table-is = store-front n T X size p 0 to-writer _;
+        table-is = store-front (places n) T X size p 0 to-writer _;
         size-is = simp length-set size;
-        stamp-is = refl;
-        op = refl;
+        is = record { stamp-is = refl; op = refl };
         value-is = λ _. refl;
       }))
 

@@ -1,5 +1,5 @@
 -- The smallest ticket outside, by digits and by the list.
-use Prim.Native.Nat.{ℕ, zero, suc, _+_, _-_, _*_, _^_, _≤_, _<_, max}
+use Prim.Native.Nat.{ℕ, zero, suc, _+_, _*_, _^_, _≤_, _<_, max}
 use mathlib.Core.Path.{_≡_, refl, sym, subst, _∙_}
 use mathlib.Core.List.{List, [], _∷_, _++_}
 use mathlib.Core.Bool.{Bool, true, false, _||_}
@@ -12,14 +12,14 @@ use lib.Dec.{ltb, eqb}
 use borrow.Author.Tests.{ltb-false, eq-eqb, ne-eqb}
 use Rattle.words.specs.declared.cell.Cell.{Cell}
 use Rattle.words.specs.Choice.{pick}
-use Rattle.protocol.specs.Counting.{one}
+use Rattle.words.specs.Counting.{one}
+use Rattle.words.specs.declared.stamp.Stamp.{Stamp}
 use Rattle.words.proofs.Laws.Choice.{pick-ind, never}
 use Rattle.protocol.specs.Tickets.{bit, withTicket, smallestOut, withCell}
+use Rattle.protocol.specs.Reference.{isIn, firstFree, newTicket, excludedTickets}
 use Rattle.protocol.proofs.Tickets.{bit-or, bit-same, bit-other, below-in, first-out, first-le-ones}
 use Rattle.protocol.proofs.NewTicket.{barred-length}
 use Rattle.protocol.proofs.Excluded.{mask, with-or}
-use Rattle.words.specs.declared.stamp.Stamp.{Stamp}
-use Rattle.protocol.specs.Reference.{isIn, firstFree, newTicket, excludedTickets}
 
 -- The set of the cells read.
 unfoldable pub bars : ℕ → List Cell → ℕ

@@ -1,13 +1,12 @@
--- Question 4's meaning: what a state that passes it has, no more and no less.
+-- Question 4's meaning for the first register's writer and readers, no more and no less; for the rest, common/Rules.InRange has it.
 use Prim.Native.Nat.{ℕ, _+_, _*_, _≤_, _<_}
 use mathlib.Core.Path.{_≡_}
 use mathlib.Core.Bool.{true, false}
 use lib.Count.{ones}
 use Rattle.words.specs.declared.stamp.Stamp.{Stamp}
-use Rattle.protocol.specs.declared.Writer.{Writer}
-use Rattle.protocol.specs.declared.Reader.{Reader}
-use Rattle.protocol.specs.declared.State.{State}
-use Rattle.protocol.specs.State.{readerAt, openIn, excludedBy}
+use Rattle.common.specs.declared.Writer.{Writer}
+use Rattle.common.specs.declared.Reader.{Reader}
+use Rattle.protocol.specs.State.{excludedBy}
 
 -- "tickets 0 to 63"
 pub record StampInRange (s : Stamp) : Type 0 where
@@ -27,20 +26,3 @@ pub record ReaderInRange (n : ℕ) (r : Reader) : Type 0 where
   -- "2n+2 in a read's first attempt, n+3 to 3n+5 from its second on"
   pub in-first : r .active ≡ true → r .second ≡ false → r .moved ≤ 2 * n + 2
   pub in-second : r .active ≡ true → r .second ≡ true → (n + 3 ≤ r .moved) × (r .moved ≤ 3 * n + 5)
-
--- with a table of so many cells and a log of so many rows
-pub record InRange (s : State) (cells log : ℕ) : Type 0 where
-  -- "n 1 to 16"
-  pub n-low : 1 ≤ s .n
-  pub n-high : s .n ≤ 16
-  -- "this table n²+n cells or more"
-  pub cells-are : s .n * s .n + s .n ≤ cells
-  -- "this log as long as recorded, 3 to 4,096"
-  pub log-is : log ≡ s .rows
-  pub rows-low : 3 ≤ s .rows
-  pub rows-high : s .rows ≤ 4096
-  -- "rows used 1 to that", "free rows at least the open operations"
-  pub used-low : 1 ≤ s .used
-  pub room : s .used + openIn s ≤ s .rows
-  pub writer-ok : WriterInRange (s .n) (s .writer)
-  pub readers-ok : (i : ℕ) → i < s .n → ReaderInRange (s .n) (readerAt s i)

@@ -1,14 +1,10 @@
-pub mod Counting
-pub mod Answers
 pub mod Table
 pub mod Tickets
 pub mod State
 pub mod InRange
-pub mod SetUp
 pub mod Write
 pub mod Read
-pub mod Calls
+pub mod Rules
 pub mod Reference
-pub mod Runs
 pub mod Whole
 pub mod Effects

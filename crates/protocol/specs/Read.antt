@@ -9,24 +9,19 @@ use Rattle.words.specs.declared.cell.Cell.{Cell}
 use Rattle.words.specs.Choice.{pick}
 use Rattle.words.specs.Stamp.{none, same, isNone}
 use Rattle.words.specs.Cell.{packCell, unpackCell}
-use Rattle.words.specs.Index.{index}
-use Rattle.protocol.specs.declared.Reader.{Reader}
-use Rattle.protocol.specs.Table.{store, plain, other}
+use Rattle.words.specs.Index.{index, other}
+use Rattle.common.specs.declared.Reader.{Reader}
+use Rattle.common.specs.State.{valueIn}
+use Rattle.common.specs.Rules.{ReadStep}
+use Rattle.protocol.specs.Table.{store, plain}
 
-pub record ReadStep : Type 0 where
-  pub reader : Reader
-  pub table : List ℕ
-
--- the stamp and the value in a cell's word
+-- the stamp in a cell's word
 abbrev pub stampIn : ℕ → Stamp
 stampIn w = unpackCell w .stamp
 
-abbrev pub valueIn : ℕ → ℕ
-valueIn w = unpackCell w .value
-
 -- a word more moved by the read
-abbrev pub counted : Reader → Reader
-counted r = record {
+abbrev pub movedOn : Reader → Reader
+movedOn r = record {
   active = true;
   second = r .second;
   moved = r .moved + 1;
@@ -122,17 +117,17 @@ wordAt n t q p = getD t (index n q p) 0
 -- sub-step l, from 0, of an attempt of reader p
 unfoldable pub attemptStep : ℕ → ℕ → ℕ → Reader → List ℕ → ReadStep
 attemptStep n p l r t =
-    pick (eqb l 0) (record { reader = looksFirst (counted r) (wordAt n t 0 p); table = t })
-    (pick (eqb l 1) (record { reader = counted r; table = store n t p 0 (announcing (r .stamp) (r .look)) })
-    (pick (eqb l 2) (record { reader = looksAgain (counted r) (wordAt n t 0 p); table = t })
-    (pick (ltb l (n + 2)) (record { reader = looksAtOther (counted r) (wordAt n t (other p (l - 3)) p); table = t })
-    (record { reader = looksThird (counted r) (wordAt n t 0 p); table = t }))))
+    pick (eqb l 0) (record { reader = looksFirst (movedOn r) (wordAt n t 0 p); table = t })
+    (pick (eqb l 1) (record { reader = movedOn r; table = store n t p 0 (announcing (r .stamp) (r .look)) })
+    (pick (eqb l 2) (record { reader = looksAgain (movedOn r) (wordAt n t 0 p); table = t })
+    (pick (ltb l (n + 2)) (record { reader = looksAtOther (movedOn r) (wordAt n t (other p (l - 3)) p); table = t })
+    (record { reader = looksThird (movedOn r) (wordAt n t 0 p); table = t }))))
 
 -- store k, from 0: "and last of all to the writer reading 0, the result's stamp, announced none. The read ends there."
 unfoldable pub resultStep : ℕ → ℕ → ℕ → Reader → List ℕ → ReadStep
 resultStep n p k r t =
-    pick (ltb (k + 1) n) (record { reader = counted r; table = store n t p (other p k) (showing (r .result)) })
-    (record { reader = readEnds (counted r); table = store n t p 0 (plain 0 (stampIn (r .result))) })
+    pick (ltb (k + 1) n) (record { reader = movedOn r; table = store n t p (other p k) (showing (r .result)) })
+    (record { reader = readEnds (movedOn r); table = store n t p 0 (plain 0 (stampIn (r .result))) })
 
 -- the words moved in the attempt
 abbrev pub since : ℕ → Reader → ℕ

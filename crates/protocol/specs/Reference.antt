@@ -1,39 +1,24 @@
--- The reference model: document 01's book, "fed n, the start reading, the log's length and the calls". It tells the rules a second
--- time, by the cells that each operation has read; with the calls' definitions it shares packing, places, calls and answers.
+-- How the first register's sub-steps go in its book (common/Book), told by the cells that each operation has read.
 use Prim.Native.Nat.{ℕ, zero, suc, _+_, _-_, _*_}
 use mathlib.Core.List.{List, [], _∷_, _++_}
-use mathlib.Core.Bool.{Bool, true, false, not, _&&_, _||_}
+use mathlib.Core.Bool.{Bool, false, not, _&&_, _||_}
 use lib.ListN.{length, getD, replicate}
 use lib.Dec.{ltb, leb, eqb}
 use Rattle.words.specs.declared.stamp.Stamp.{Stamp}
 use Rattle.words.specs.declared.cell.Cell.{Cell}
 use Rattle.words.specs.Choice.{pick}
-use Rattle.words.specs.Update.{upd}
 use Rattle.words.specs.Stamp.{none}
 use Rattle.words.specs.Cell.{packCell}
-use Rattle.words.specs.Row.{packRow}
-use Rattle.protocol.specs.declared.Answer.{Answer}
-use Rattle.protocol.specs.declared.Answer.the-variants.{Accepted, Moved, Refused}
-use Rattle.protocol.specs.declared.Refusal.{Refusal}
-use Rattle.protocol.specs.declared.Refusal.the-variants.{Processor, Busy, Full, Idle}
-use Rattle.protocol.specs.Counting.{one, count}
-use Rattle.protocol.specs.Table.{view, store, other}
+use Rattle.common.specs.Book as Book
+use Rattle.common.specs.Book.{idle, open-with, Telling}
+use Rattle.protocol.specs.Table.{view, store}
+use Rattle.words.specs.Index.{other}
 
--- "each processor idle, or open with a write's reading, its words moved and the cells it read"
-pub data Operation : Type 0 where
-  idle : Operation
-  open-with : (v m : ℕ) (cells : List Cell) → Operation
+abbrev pub Operation : Type 0
+Operation = Book.Operation Cell
 
--- "a fresh table; a log with row 0; the writer's stamp, at first (0,1); each reader's stamp, at first none"
-pub record Model : Type 0 where
-  pub table : List ℕ
-  pub rows : List ℕ
-  pub stamp : ℕ → Stamp
-  pub op : ℕ → Operation
-
-abbrev pub isOpen : Operation → Bool
-isOpen idle = false
-isOpen (open-with v m cells) = true
+abbrev pub Turn : Type 0
+Turn = Book.Turn Stamp Cell
 
 -- t is in the list
 unfoldable pub isIn : ℕ → List ℕ → Bool
@@ -58,13 +43,6 @@ excludedTickets s (c ∷ cs) = c .stamp .prev ∷ c .announced .cur ∷ c .annou
 -- "New stamp: (that ticket, old cur)."
 abbrev pub newStamp : Stamp → List Cell → Stamp
 newStamp s cells = record { cur = newTicket (excludedTickets s cells); prev = s .cur }
-
--- what an operation's sub-step leaves: the operation, the processor's stamp, the table, and the value of the end row
-pub record Turn : Type 0 where
-  pub op : Operation
-  pub stamp : Stamp
-  pub table : List ℕ
-  pub value : ℕ
 
 -- "Sub-steps 1..n read the readers' cells to the writer", "Sub-steps n+1..2n store v with the new stamp to readers 1..n",
 -- "A write ends at its sub-step 2n."
@@ -166,70 +144,6 @@ readTurn n p t s m cells =
     let l = m - pick (failed n m cells) (n + 3) 0 in
     pick (ltb l (n + 3)) (attemptTurn n p t s m cells l a) (resultTurn n p t s m cells (l - (n + 3)) (resultOf n cells a))
 
--- a call's answer, and the book behind it
-pub record Told : Type 0 where
-  pub answer : Answer
-  pub model : Model
-
-abbrev pub openCount : ℕ → Model → ℕ
-openCount n b = one (isOpen (b .op 0)) + count n (λ i. isOpen (b .op (suc i)))
-
--- "A refused call changes nothing."
-abbrev pub declined : Refusal → Model → Told
-declined r b = record { answer = Refused r; model = b }
-
--- "A begin opens its processor with no word moved and adds its row." Of len rows, those free are len less the book's.
-unfoldable pub begins : ℕ → ℕ → Model → ℕ → ℕ → ℕ → Told
-begins n len b p kind v =
-    pick (isOpen (b .op p)) (declined Busy b)
-    (pick (leb (length (b .rows) + openCount n b + 2) len)
-    (record {
-      answer = Accepted;
-      model = record {
-        table = b .table;
-        rows = b .rows ++ (packRow (record { kind = kind; processor = p; value = v }) ∷ []);
-        stamp = b .stamp;
-        op = upd (b .op) p (open-with v 0 []);
-      };
-    })
-    (declined Full b))
-
--- "The end row is added, a read's with its result by the rules; the write's or result's stamp becomes the processor's own; the
--- processor is idle."
-abbrev pub entered : Model → ℕ → ℕ → Turn → Model
-entered b p kind x = record {
-  table = x .table;
-  rows = pick (isOpen (x .op)) (b .rows) (b .rows ++ (packRow (record { kind = kind; processor = p; value = x .value }) ∷ []));
-  stamp = upd (b .stamp) p (x .stamp);
-  op = upd (b .op) p (x .op);
-}
-
--- "A sub-step moves that operation's next word in the book's table, by the rules above. Its number is the words moved since the
--- begin, this one included."
-abbrev pub movesWrite : ℕ → Model → Operation → Told
-movesWrite n b idle = declined Idle b
-movesWrite n b (open-with v m cells) =
-    record { answer = Moved (m + 1); model = entered b 0 2 (writeTurn n (b .table) (b .stamp 0) v m cells) }
-
-abbrev pub movesRead : ℕ → Model → ℕ → Operation → Told
-movesRead n b p idle = declined Idle b
-movesRead n b p (open-with v m cells) =
-    record { answer = Moved (m + 1); model = entered b p 4 (readTurn n p (b .table) (b .stamp p) m cells) }
-
--- "A list has any number of begins of a write, begins of a read and sub-steps, in any order, with any reading and any processor
--- number."
-pub data Call : Type 0 where
-  write : ℕ → Call
-  read : ℕ → Call
-  step : ℕ → Call
-
--- "Questions 5 to 8 are asked of the book; in a list question 4 refuses nothing."
-unfoldable pub told : ℕ → ℕ → Model → Call → Told
-told n len b (write v) = begins n len b 0 1 v
-told n len b (read p) = pick (leb 1 p && leb p n) (begins n len b p 3 0) (declined Processor b)
-told n len b (step p) =
-    pick (leb p n) (pick (eqb p 0) (movesWrite n b (b .op 0)) (movesRead n b p (b .op p))) (declined Processor b)
-
 -- "Fresh: cells from the writer hold the start reading and stamp (0,1). All others hold reading 0 and stamp none. Announced fields
 -- are 63 everywhere."
 abbrev pub startCell : ℕ → Cell
@@ -242,22 +156,18 @@ abbrev pub freshStamp : ℕ → Stamp
 freshStamp zero = record { cur = 0; prev = 1 }
 freshStamp (suc i) = none
 
-abbrev pub freshModel : ℕ → ℕ → Model
-freshModel n v = record {
-  table = freshTable n v;
-  rows = packRow (record { kind = 5; processor = n; value = v }) ∷ [];
-  stamp = freshStamp;
-  op = λ _. idle;
+-- the first register's book
+abbrev pub book : Telling Stamp Cell
+book = record {
+  freshTable = λ n v _. freshTable n v;
+  freshStamp = λ _. freshStamp;
+  spent = λ _. false;
+  writeTurn = writeTurn;
+  readTurn = readTurn;
 }
 
--- a list of calls: the answers, and the book at its end
-pub record Kept : Type 0 where
-  pub answers : List Answer
-  pub model : Model
+abbrev pub Model : Type 0
+Model = Book.Model Stamp Cell
 
-unfoldable pub kept : ℕ → ℕ → Model → List Call → Kept
-kept n len b [] = record { answers = []; model = b }
-kept n len b (c ∷ cs) =
-    let o = told n len b c in
-    let r = kept n len (o .model) cs in
-    record { answers = o .answer ∷ r .answers; model = r .model }
+abbrev pub Told : Type 0
+Told = Book.Told Stamp Cell

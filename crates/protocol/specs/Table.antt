@@ -1,11 +1,9 @@
 -- The table's cells, by the processors from and to whom they are.
-use Prim.Native.Nat.{ℕ, _+_}
+use Prim.Native.Nat.{ℕ}
 use mathlib.Core.List.{List}
 use lib.ListN.{getD, set}
-use lib.Dec.{ltb}
 use Rattle.words.specs.declared.stamp.Stamp.{Stamp}
 use Rattle.words.specs.declared.cell.Cell.{Cell}
-use Rattle.words.specs.Choice.{pick}
 use Rattle.words.specs.Stamp.{none}
 use Rattle.words.specs.Cell.{packCell, unpackCell}
 use Rattle.words.specs.Index.{index}
@@ -20,7 +18,3 @@ store n t i j c = set t (index n i j) (packCell c)
 -- a cell that announces nothing
 abbrev pub plain : ℕ → Stamp → Cell
 plain v s = record { value = v; stamp = s; announced = none }
-
--- "the other readers, in rising order": the k-th reader, from 0, other than p
-unfoldable pub other : ℕ → ℕ → ℕ
-other p k = pick (ltb (k + 1) p) (k + 1) (k + 2)

@@ -5,14 +5,11 @@ use mathlib.Core.Bool.{true, false}
 use lib.Dec.{ltb, eqb}
 use Rattle.words.specs.declared.stamp.Stamp.{Stamp}
 use Rattle.words.specs.Choice.{pick}
-use Rattle.protocol.specs.declared.Writer.{Writer}
+use Rattle.common.specs.declared.Writer.{Writer}
+use Rattle.common.specs.Rules.{WriteStep}
 use Rattle.protocol.specs.Table.{view, store, plain}
 use Rattle.protocol.specs.Tickets.{withCell, smallestOut}
 use Rattle.protocol.specs.State.{excludedBy}
-
-pub record WriteStep : Type 0 where
-  pub writer : Writer
-  pub table : List ℕ
 
 -- "Sub-steps 1..n read the readers' cells to the writer, readers 1..n."
 abbrev pub writerReads : ℕ → Writer → List ℕ → Writer
@@ -23,6 +20,7 @@ writerReads n w t = record {
   excluded = withCell (w .excluded) (view n t (w .moved + 1) 0);
   ticket = w .ticket;
   stamp = w .stamp;
+  count = w .count;
 }
 
 -- "The new ticket, taken at sub-step n+1 before its store, is the smallest that is not barred."
@@ -41,6 +39,7 @@ writerStores n w = record {
   excluded = w .excluded;
   ticket = ticketOf n w;
   stamp = w .stamp;
+  count = w .count;
 }
 
 abbrev pub writerEnds : ℕ → Writer → Writer
@@ -51,6 +50,7 @@ writerEnds n w = record {
   excluded = w .excluded;
   ticket = ticketOf n w;
   stamp = newStamp n w;
+  count = w .count;
 }
 
 -- "Sub-steps n+1..2n store v with the new stamp to readers 1..n."

@@ -5,9 +5,10 @@ use mathlib.Core.Bool.{Bool, true, false, _&&_, _||_}
 use borrow.Author.Tests.{eq-eqb, ne-eqb}
 use Rattle.words.specs.Stamp.{none, same, isNone}
 use Rattle.words.specs.Cell.{packCell}
-use Rattle.protocol.specs.declared.Reader.{Reader}
+use Rattle.common.specs.declared.Reader.{Reader}
 use Rattle.protocol.specs.Table.{plain}
-use Rattle.protocol.specs.Read.{stampIn, valueIn, looksAtOther, looksThird, showing}
+use Rattle.common.specs.State.{valueIn}
+use Rattle.protocol.specs.Read.{stampIn, looksAtOther, looksThird, showing}
 
 -- a reader that has found a word, and one with a result
 abbrev withFound : Reader → ℕ → Reader

@@ -1,12 +1,13 @@
 // The words that an attempt reads: what each makes of the reader.
-use protocol::Reader;
+use common::Reader;
 use words::cell::Cell;
 use words::stamp::Stamp;
 ghost use mathlib.Core.Path.{_≡_};
 ghost use Rattle.words.specs.Stamp.{none};
 ghost use Rattle.words.specs.Cell.{packCell};
-ghost use Rattle.protocol.specs.Table.{plain, other};
-ghost use Rattle.protocol.specs.Read.{stampIn, valueIn, looksFirst, looksAgain, looksAtOther, looksThird};
+ghost use Rattle.common.specs.State.{valueIn};
+ghost use Rattle.protocol.specs.Table.{plain};
+ghost use Rattle.protocol.specs.Read.{stampIn, looksFirst, looksAgain, looksAtOther, looksThird};
 
 // The stamp in a cell's word.
 pub fn stamp_in(word: u64) -> Stamp
@@ -16,23 +17,11 @@ pub fn stamp_in(word: u64) -> Stamp
     c.stamp
 }
 
-// The value that a cell's word shows.
+// The value that a cell's word shows, in either register.
 pub fn value_in(word: u64) -> u32
     ensures { λ r. ⌜ r ≡ valueIn word ⌝ }
 {
-    let cell = words::cell::unpack(word);
-    cell.value
-}
-
-// The k-th reader, from 0, other than p.
-pub fn other_reader(p: u32, k: u8) -> u32
-    ensures { λ r. ⌜ r ≡ other p k ⌝ }
-{
-    let m = k as u32;
-    if m + 1 < p {
-        return m + 1;
-    }
-    m + 2
+    (word / 4294967296 % 4294967296) as u32
 }
 
 // The writer's cell, for the first time.

@@ -1,7 +1,7 @@
 // The cells that a read stores, and its end.
 use super::looks::stamp_in;
 use super::looks::value_in;
-use protocol::Reader;
+use common::Reader;
 use words::cell::Cell;
 use words::stamp::Stamp;
 ghost use mathlib.Core.Path.{_≡_};

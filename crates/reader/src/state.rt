@@ -1,11 +1,11 @@
 // A fresh reader, one that begins a read, and question 4 of one reader.
-use protocol::Reader;
+use common::Reader;
 ghost use mathlib.Core.Path.{_≡_};
+ghost use Rattle.common.specs.State.{readerBegins};
+ghost use Rattle.common.specs.SetUp.{freshReader};
 ghost use Rattle.protocol.specs.State.{spanOk, openReadOk, readerOk};
-ghost use Rattle.protocol.specs.SetUp.{freshReader};
-ghost use Rattle.protocol.specs.Calls.{readerBegins};
 
-// A reader that has no stamp of its own yet.
+// The reader of a fresh register of either kind: it has no stamp of its own yet.
 pub fn fresh_reader() -> Reader
     ensures { λ r. ⌜ r ≡ freshReader ⌝ }
 {
@@ -22,7 +22,7 @@ pub fn fresh_reader() -> Reader
     }
 }
 
-// A read begins.
+// A read begins, in a register of either kind.
 pub fn open_reader(r: Reader) -> Reader
     ensures { λ q. ⌜ q ≡ readerBegins r ⌝ }
 {
@@ -30,6 +30,7 @@ pub fn open_reader(r: Reader) -> Reader
     next.active = true;
     next.second = false;
     next.moved = 0;
+    next.result = 0;
     next
 }
 

@@ -1,30 +1,32 @@
--- What a state in range gives the calls, and the calls' cases as the code takes them.
-use Prim.Native.Nat.{ℕ, _+_, _-_, _*_, _≤_, _<_}
-use mathlib.Core.Path.{_≡_, refl, ap}
+-- What a state in range gives the calls, and the calls' cases as the code takes them, for any rules.
+use Prim.Native.Nat.{ℕ, _+_, _-_, _≤_, _<_}
+use mathlib.Core.Path.{_≡_, refl, sym, ap, subst, _∙_}
 use mathlib.Core.Logic.{_≢_}
 use mathlib.Core.List.{List, _++_}
 use mathlib.Core.Bool.{Bool, true, false, _&&_}
 use native.Mathlib.Omega.{arith}
 use lib.ListN.{length, set, drop}
 use lib.Dec.{leb}
-use borrow.Author.Tests.{le-leb, lt-leb, eq-eqb, ne-eqb}
-use Rattle.protocol.specs.declared.Writer.{Writer}
-use Rattle.protocol.specs.declared.Reader.{Reader}
-use Rattle.protocol.specs.declared.State.{State}
-use Rattle.protocol.specs.declared.Answer.the-variants.{Accepted, Moved, Refused}
-use Rattle.protocol.specs.declared.Refusal.{Refusal}
-use Rattle.protocol.specs.declared.Refusal.the-variants.{Readers, Cells, Rows, Range, Processor, Busy, Full, Idle}
-use Rattle.protocol.specs.Counting.{one}
-use Rattle.protocol.specs.State.{readerAt, openIn, stateOk}
-use Rattle.protocol.specs.InRange.{InRange}
-use Rattle.protocol.specs.Answers.{reply}
-use Rattle.protocol.specs.SetUp.{Outcome, refused, freshState, freshCells, startRow, noState, setUpOf}
-use Rattle.protocol.specs.Write.{writeStep}
-use Rattle.protocol.specs.Read.{valueIn, readStep}
-use Rattle.protocol.specs.Calls.{withWriter, withReader, rowOf, writerBegins, readerBegins, beginWriteOf, beginReadOf, stepWriter, stepReader, stepOf}
-use Rattle.protocol.proofs.Counting.{count-some}
+use borrow.Author.Tests.{leb-true, le-leb, lt-leb, eq-eqb, ne-eqb}
+use Rattle.words.specs.Counting.{one}
+use Rattle.words.specs.Row.{rowOf}
+use Rattle.words.proofs.Laws.Choice.{left, right}
+use Rattle.words.proofs.Laws.Counting.{count-some}
+use Rattle.common.specs.declared.Writer.{Writer}
+use Rattle.common.specs.declared.Reader.{Reader}
+use Rattle.common.specs.declared.State.{State}
+use Rattle.common.specs.declared.Answer.the-variants.{Accepted, Moved, Refused}
+use Rattle.common.specs.declared.Refusal.{Refusal}
+use Rattle.common.specs.declared.Refusal.the-variants.{Readers, Cells, Rows, Range, Processor, Busy, Full, Idle, Spent}
+use Rattle.common.specs.Answers.{reply}
+use Rattle.common.specs.Head.{isProcessor, hasRoom, began}
+use Rattle.common.specs.State.{readerAt, openIn, withWriter, withReader, writerBegins, readerBegins, valueIn}
+use Rattle.common.specs.Rules.{Rules, stateOk, InRange}
+use Rattle.common.specs.SetUp.{Outcome, refused, freshState, startRow, noState, setUpOf}
+use Rattle.common.specs.Register.{beginWriteOf, beginReadOf, stepWriter, stepReader, stepOf}
+use Rattle.common.proofs.Range.{test-range}
 use Rattle.register.specs.declared.calls.Called.{Called}
-use Rattle.register.specs.Contract.{TableOk, WriteOk, ReadOk, writeStepped, readStepped, outcome, startWord, voidWord, freshWords}
+use Rattle.register.specs.Contract.{TableOk, writeStepped, readStepped, outcome}
 
 -- Equal outcomes have equal replies.
 pub with-reply : {o q : Outcome} → o ≡ q → (o ≡ q) × (reply (o .answer) ≡ reply (q .answer))
@@ -34,171 +36,198 @@ pub refusal : (c : Called) (why : Refusal) (s : State) (t l : List ℕ) → c .a
     → outcome c t l ≡ refused why s t l
 refusal c why s t l e f = λ i. record { answer = e i; state = f i; table = t; log = l }
 
-module _ (s : State) (cells log : ℕ) (k : InRange s cells log) where
-  pub table-in : TableOk (s .n) cells
-  table-in = record { n-low = k .n-low; n-high = k .n-high; cells-are = k .cells-are }
+-- More than 16 readers are out of range.
+pub many-readers : (R : Rules) (s : State) (cells log : ℕ) → 16 < s .head .n → false ≡ stateOk R s cells log
+many-readers R s cells log h = at (stateOk R s cells log) refl
+  where
+    at : (b : Bool) → stateOk R s cells log ≡ b → false ≡ b
+    at false e = refl
+    at true e = absurd (omega (arith, test-range R s cells log e .head-ok .n-high))
 
-  pub write-in : s .writer .active ≡ true → WriteOk (s .n) (s .writer)
-  write-in a = record { moved-low = k .writer-ok .moved-low a; few = k .writer-ok .few a }
+-- Questions 5 and 7.
+module _ (s : State) where
+  pub processor-low : (least p : ℕ) → isProcessor (s .head) least p ≡ true → least ≤ p
+  processor-low least p e = leb-true least p (left (leb least p) _ e)
 
-  pub write-room : s .writer .active ≡ true → s .used < log
-  write-room a = omega (arith, k .room, k .log-is, ap one a)
+  pub processor-high : (least p : ℕ) → isProcessor (s .head) least p ≡ true → p ≤ s .head .n
+  processor-high least p e = leb-true p (s .head .n) (right (leb least p) _ e)
 
-  module _ (p : ℕ) (p1 : 1 ≤ p) (pn : p ≤ s .n) (a : readerAt s (p - 1) .active ≡ true) where
-    pub read-in : ReadOk (s .n) p (readerAt s (p - 1))
-    read-in =
-        let o = k .readers-ok (p - 1) (omega arith) in
-        record {
-          p-low = p1;
-          p-high = pn;
-          moved-low = at (readerAt s (p - 1) .second) refl;
-          in-first = o .in-first a;
-          in-second = o .in-second a;
-        }
-      where
-        at : (b : Bool) → readerAt s (p - 1) .second ≡ b → readerAt s (p - 1) .moved ≤ 3 * s .n + 5
-        at true e = k .readers-ok (p - 1) (omega arith) .in-second a e .1
-        at false e = omega (arith, k .readers-ok (p - 1) (omega arith) .in-first a e)
+  pub room-told : (opens : ℕ) (r b : Bool) → opens ≡ openIn s → r ≡ hasRoom (s .head) opens → r ≡ b → hasRoom (s .head) (openIn s) ≡ b
+  room-told opens r b e f g = subst (λ (m : ℕ). hasRoom (s .head) m ≡ b) e (sym f ∙ g)
 
-    pub read-room : s .used < log
-    read-room = omega (arith, k .room, k .log-is, count-some (s .n) (λ i. readerAt s i .active) (p - 1) (omega arith) a)
+  room-low : hasRoom (s .head) (openIn s) ≡ true → s .head .used + openIn s + 2 ≤ s .head .rows
+  room-low e = leb-true (s .head .used + openIn s + 2) (s .head .rows) e
 
-module _ (s : State) (t l : List ℕ) where
+module _ (R : Rules) (s : State) (cells log : ℕ) (k : InRange R s cells log) where
+  pub table-in : TableOk R (s .head .n) cells
+  table-in = record { n-low = k .head-ok .n-low; n-high = k .head-ok .n-high; cells-are = k .head-ok .cells-are }
+
+  pub begin-row : hasRoom (s .head) (openIn s) ≡ true → s .head .used < log
+  begin-row e = omega (arith, room-low s e, k .head-ok .log-is)
+
+  pub write-row : s .writer .active ≡ true → s .head .used < log
+  write-row a = omega (arith, k .head-ok .room, k .head-ok .log-is, ap one a)
+
+  pub read-row : (p : ℕ) → 1 ≤ p → p ≤ s .head .n → readerAt s (p - 1) .active ≡ true → s .head .used < log
+  read-row p p1 pn a =
+      omega (arith, k .head-ok .room, k .head-ok .log-is, count-some (s .head .n) (λ i. readerAt s i .active) (p - 1) (omega arith) a)
+
+module _ (R : Rules) (s : State) (t l : List ℕ) where
   -- A sub-step of the write goes on, or ends it.
-  module _ (q : Writer) (t′ : List ℕ) (e : writeStepped q t′ ≡ writeStep (s .n) (s .writer) t) where
+  module _ (q : Writer) (t′ : List ℕ) (e : writeStepped q t′ ≡ R .writeStep (s .head .n) (s .writer) t) where
     pub write-goes : q .active ≡ true
-        → record { answer = Moved (s .writer .moved + 1); state = withWriter s q (s .used); table = t′; log = l } ≡ stepWriter s t l
+        → record { answer = Moved (s .writer .moved + 1); state = withWriter s q (s .head); table = t′; log = l } ≡ stepWriter R s t l
     unfolding stepWriter
     write-goes a = rw (← e, a)
 
     pub write-ends : q .active ≡ false
-        → record { answer = Moved (s .writer .moved + 1); state = withWriter s q (s .used + 1); table = t′; log = set l (s .used) (rowOf 2 0 0) }
-        ≡ stepWriter s t l
+        → record {
+          answer = Moved (s .writer .moved + 1);
+          state = withWriter s q (began (s .head));
+          table = t′;
+          log = set l (s .head .used) (rowOf 2 0 0);
+        }
+        ≡ stepWriter R s t l
     unfolding stepWriter
     write-ends a = rw (← e, a)
 
   -- The same of a read.
-  module _ (p : ℕ) (q : Reader) (t′ : List ℕ) (e : readStepped q t′ ≡ readStep (s .n) p (readerAt s (p - 1)) t) where
+  module _ (p : ℕ) (q : Reader) (t′ : List ℕ) (e : readStepped q t′ ≡ R .readStep (s .head .n) p (readerAt s (p - 1)) t) where
     pub read-goes : q .active ≡ true
-        → record { answer = Moved (readerAt s (p - 1) .moved + 1); state = withReader s (p - 1) q (s .used); table = t′; log = l }
-        ≡ stepReader s t l p
+        → record { answer = Moved (readerAt s (p - 1) .moved + 1); state = withReader s (p - 1) q (s .head); table = t′; log = l }
+        ≡ stepReader R s t l p
     unfolding stepReader
     read-goes a = rw (← e, a)
 
     pub read-ends : q .active ≡ false
         → record {
           answer = Moved (readerAt s (p - 1) .moved + 1);
-          state = withReader s (p - 1) q (s .used + 1);
+          state = withReader s (p - 1) q (began (s .head));
           table = t′;
-          log = set l (s .used) (rowOf 4 p (valueIn (q .result)));
+          log = set l (s .head .used) (rowOf 4 p (valueIn (q .result)));
         }
-        ≡ stepReader s t l p
+        ≡ stepReader R s t l p
     unfolding stepReader
     read-ends a = rw (← e, a)
 
   abbrev ok : Bool
-  ok = stateOk s (length t) (length l)
+  ok = stateOk R s (length t) (length l)
+
+  abbrev room : Bool
+  room = hasRoom (s .head) (openIn s)
 
   -- Begin a write.
   module _ (v : ℕ) where
-    pub write-range : ok ≡ false → refused Range s t l ≡ beginWriteOf s t l v
+    pub write-range : ok ≡ false → refused Range s t l ≡ beginWriteOf R s t l v
     unfolding beginWriteOf
     write-range e = rw e
 
-    pub write-busy : ok ≡ true → s .writer .active ≡ true → refused Busy s t l ≡ beginWriteOf s t l v
-    unfolding beginWriteOf
-    write-busy e a = rw (e, a)
+    module _ (e : stateOk R s (length t) (length l) ≡ true) where
+      pub write-busy : s .writer .active ≡ true → refused Busy s t l ≡ beginWriteOf R s t l v
+      unfolding beginWriteOf
+      write-busy a = rw (e, a)
 
-    pub write-full : ok ≡ true → s .writer .active ≡ false → s .rows < s .used + openIn s + 2 → refused Full s t l ≡ beginWriteOf s t l v
-    unfolding beginWriteOf
-    write-full e a h = rw (e, lt-leb (s .used + openIn s + 2) (s .rows) h, a)
+      module _ (a : s .writer .active ≡ false) where
+        pub write-full : room ≡ false → refused Full s t l ≡ beginWriteOf R s t l v
+        unfolding beginWriteOf
+        write-full h = rw (e, h, a)
 
-    pub write-begins : ok ≡ true → s .writer .active ≡ false → s .used + openIn s + 2 ≤ s .rows
-        → record { answer = Accepted; state = withWriter s (writerBegins (s .writer) v) (s .used + 1); table = t; log = set l (s .used) (rowOf 1 0 v) }
-        ≡ beginWriteOf s t l v
-    unfolding beginWriteOf
-    write-begins e a h = rw (e, le-leb (s .used + openIn s + 2) (s .rows) h, a)
+        pub write-spent : room ≡ true → R .mayWrite (s .writer) ≡ false → refused Spent s t l ≡ beginWriteOf R s t l v
+        unfolding beginWriteOf
+        write-spent h m = rw (e, h, m, a)
 
-  -- Begin a read.
+        pub write-begins : room ≡ true → R .mayWrite (s .writer) ≡ true
+            → record {
+              answer = Accepted;
+              state = withWriter s (writerBegins (s .writer) v) (began (s .head));
+              table = t;
+              log = set l (s .head .used) (rowOf 1 0 v);
+            }
+            ≡ beginWriteOf R s t l v
+        unfolding beginWriteOf
+        write-begins h m = rw (e, h, m, a)
+
   module _ (p : ℕ) where
-    pub read-range : ok ≡ false → refused Range s t l ≡ beginReadOf s t l p
+    -- Begin a read.
+    pub read-range : ok ≡ false → refused Range s t l ≡ beginReadOf R s t l p
     unfolding beginReadOf
     read-range e = rw e
 
-    pub read-processor : ok ≡ true → (leb 1 p && leb p (s .n)) ≡ false → refused Processor s t l ≡ beginReadOf s t l p
+    pub read-processor : ok ≡ true → isProcessor (s .head) 1 p ≡ false → refused Processor s t l ≡ beginReadOf R s t l p
     unfolding beginReadOf
     read-processor e q = rw (e, q)
 
-    module _ (e : stateOk s (length t) (length l) ≡ true) (q : (leb 1 p && leb p (s .n)) ≡ true) where
-      pub read-busy : readerAt s (p - 1) .active ≡ true → refused Busy s t l ≡ beginReadOf s t l p
+    module _ (e : stateOk R s (length t) (length l) ≡ true) (q : isProcessor (s .head) 1 p ≡ true) where
+      pub read-busy : readerAt s (p - 1) .active ≡ true → refused Busy s t l ≡ beginReadOf R s t l p
       unfolding beginReadOf
       read-busy a = rw (e, q, a)
 
-      pub read-full : readerAt s (p - 1) .active ≡ false → s .rows < s .used + openIn s + 2 → refused Full s t l ≡ beginReadOf s t l p
+      pub read-full : readerAt s (p - 1) .active ≡ false → room ≡ false → refused Full s t l ≡ beginReadOf R s t l p
       unfolding beginReadOf
-      read-full a h = rw (e, q, a, lt-leb (s .used + openIn s + 2) (s .rows) h)
+      read-full a h = rw (e, q, a, h)
 
-      pub read-begins : readerAt s (p - 1) .active ≡ false → s .used + openIn s + 2 ≤ s .rows
+      pub read-begins : readerAt s (p - 1) .active ≡ false → room ≡ true
           → record {
             answer = Accepted;
-            state = withReader s (p - 1) (readerBegins (readerAt s (p - 1))) (s .used + 1);
+            state = withReader s (p - 1) (readerBegins (readerAt s (p - 1))) (began (s .head));
             table = t;
-            log = set l (s .used) (rowOf 3 p 0);
+            log = set l (s .head .used) (rowOf 3 p 0);
           }
-          ≡ beginReadOf s t l p
+          ≡ beginReadOf R s t l p
       unfolding beginReadOf
-      read-begins a h = rw (e, q, a, le-leb (s .used + openIn s + 2) (s .rows) h)
+      read-begins a h = rw (e, q, a, h)
 
-  -- A sub-step.
-  module _ (p : ℕ) where
-    pub step-range : ok ≡ false → refused Range s t l ≡ stepOf s t l p
+    -- A sub-step.
+    pub step-range : ok ≡ false → refused Range s t l ≡ stepOf R s t l p
     unfolding stepOf
     step-range e = rw e
 
-    pub step-processor : ok ≡ true → s .n < p → refused Processor s t l ≡ stepOf s t l p
+    pub step-processor : ok ≡ true → isProcessor (s .head) 0 p ≡ false → refused Processor s t l ≡ stepOf R s t l p
     unfolding stepOf
-    step-processor e h = rw (e, lt-leb p (s .n) h)
+    step-processor e q = rw (e, q)
 
-    module _ (e : stateOk s (length t) (length l) ≡ true) (h : p ≤ s .n) where
-      pub step-writes : p ≡ 0 → s .writer .active ≡ true → stepWriter s t l ≡ stepOf s t l p
+    module _ (e : stateOk R s (length t) (length l) ≡ true) (q : isProcessor (s .head) 0 p ≡ true) where
+      pub step-writes : p ≡ 0 → s .writer .active ≡ true → stepWriter R s t l ≡ stepOf R s t l p
       unfolding stepOf
-      step-writes z a = rw (e, le-leb p (s .n) h, eq-eqb p 0 z, a)
+      step-writes z a = rw (e, q, eq-eqb p 0 z, a)
 
-      pub step-no-write : p ≡ 0 → s .writer .active ≡ false → refused Idle s t l ≡ stepOf s t l p
+      pub step-no-write : p ≡ 0 → s .writer .active ≡ false → refused Idle s t l ≡ stepOf R s t l p
       unfolding stepOf
-      step-no-write z a = rw (e, le-leb p (s .n) h, eq-eqb p 0 z, a)
+      step-no-write z a = rw (e, q, eq-eqb p 0 z, a)
 
-      pub step-reads : p ≢ 0 → readerAt s (p - 1) .active ≡ true → stepReader s t l p ≡ stepOf s t l p
+      pub step-reads : p ≢ 0 → readerAt s (p - 1) .active ≡ true → stepReader R s t l p ≡ stepOf R s t l p
       unfolding stepOf
-      step-reads z a = rw (e, le-leb p (s .n) h, ne-eqb p 0 z, a)
+      step-reads z a = rw (e, q, ne-eqb p 0 z, a)
 
-      pub step-no-read : p ≢ 0 → readerAt s (p - 1) .active ≡ false → refused Idle s t l ≡ stepOf s t l p
+      pub step-no-read : p ≢ 0 → readerAt s (p - 1) .active ≡ false → refused Idle s t l ≡ stepOf R s t l p
       unfolding stepOf
-      step-no-read z a = rw (e, le-leb p (s .n) h, ne-eqb p 0 z, a)
+      step-no-read z a = rw (e, q, ne-eqb p 0 z, a)
 
 -- Set-up.
-module _ (n v : ℕ) (t l : List ℕ) where
-  pub no-readers : (leb 1 n && leb n 16) ≡ false → refused Readers noState t l ≡ setUpOf n v t l
+module _ (R : Rules) (n v fresh : ℕ) (t l : List ℕ) where
+  pub no-readers : (leb 1 n && leb n 16) ≡ false → refused Readers (noState (R .counted)) t l ≡ setUpOf R n v fresh t l
   unfolding setUpOf
   no-readers e = rw e
 
   module _ (e : (leb 1 n && leb n 16) ≡ true) where
-    pub no-cells : length t < n * n + n → refused Cells noState t l ≡ setUpOf n v t l
+    pub no-cells : length t < R .cells n → refused Cells (noState (R .counted)) t l ≡ setUpOf R n v fresh t l
     unfolding setUpOf
-    no-cells h = rw (e, lt-leb (n * n + n) (length t) h)
+    no-cells h = rw (e, lt-leb (R .cells n) (length t) h)
 
-    module _ (h : n * n + n ≤ length t) where
-      pub no-rows : (leb 3 (length l) && leb (length l) 4096) ≡ false → refused Rows noState t l ≡ setUpOf n v t l
+    module _ (h : R .cells n ≤ length t) where
+      pub no-rows : (leb 3 (length l) && leb (length l) 4096) ≡ false → refused Rows (noState (R .counted)) t l ≡ setUpOf R n v fresh t l
       unfolding setUpOf
-      no-rows q = rw (e, le-leb (n * n + n) (length t) h, q)
+      no-rows q = rw (e, le-leb (R .cells n) (length t) h, q)
 
-      pub all-set : (leb 3 (length l) && leb (length l) 4096) ≡ true
-          → record {
-            answer = Accepted;
-            state = freshState n (length l);
-            table = freshWords n (startWord v) voidWord ++ drop (n * n + n) t;
-            log = set l 0 (startRow n v);
-          }
-          ≡ setUpOf n v t l
-      unfolding setUpOf freshCells
-      all-set q = rw (e, le-leb (n * n + n) (length t) h, q)
+    -- with the kind, the cells and their number as the code has them
+    pub all-set : (b : Bool) (cells : List ℕ) (need : ℕ) → need ≡ R .cells n → need ≤ length t
+        → (leb 3 (length l) && leb (length l) 4096) ≡ true → b ≡ R .counted → cells ≡ R .freshCells n v fresh
+        → record {
+          answer = Accepted;
+          state = freshState b n fresh (length l);
+          table = cells ++ drop need t;
+          log = set l 0 (startRow n v);
+        }
+        ≡ setUpOf R n v fresh t l
+    unfolding setUpOf
+    all-set b cells need c h q k f = rw (k, f, c, e, le-leb (R .cells n) (length t) (omega (arith, c, h)), q)

@@ -1,3 +1,6 @@
-pub mod Laws
+mod Laws
+mod CountingLaws
+mod KindLaws
 pub mod CallLaws
+pub mod Passes
 mod RunLaws

@@ -1,28 +1,30 @@
 -- What the functions inside the register ask of one another, and their outcomes as the definitions have them.
-use Prim.Native.Nat.{ℕ, _+_, _*_, _≤_, _<_}
+use Prim.Native.Nat.{ℕ, _+_, _-_, _*_, _≤_, _<_}
 use mathlib.Core.Path.{_≡_}
-use mathlib.Core.Bool.{true, false}
+use mathlib.Core.Bool.{Bool, true, false}
 use mathlib.Core.List.{List, _++_}
 use lib.ListN.{replicate}
-use Rattle.words.specs.Stamp.{none}
-use Rattle.words.specs.Cell.{packCell}
-use Rattle.protocol.specs.Table.{plain}
 use lib.Count.{ones}
 use lib.Dec.{ltb}
 use Rattle.words.specs.Choice.{pick}
-use Rattle.protocol.specs.declared.Writer.{Writer}
-use Rattle.protocol.specs.declared.Reader.{Reader}
-use Rattle.protocol.specs.SetUp.{Outcome}
-use Rattle.protocol.specs.Write.{WriteStep, writerStores, writerEnds}
-use Rattle.protocol.specs.Read.{ReadStep}
+use Rattle.words.specs.Stamp.{none}
+use Rattle.words.specs.Cell.{packCell}
+use Rattle.common.specs.declared.Writer.{Writer}
+use Rattle.common.specs.declared.Reader.{Reader}
+use Rattle.common.specs.Rules.{WriteStep, ReadStep, Rules}
+use Rattle.common.specs.SetUp.{Outcome}
+use Rattle.protocol.specs.Table.{plain}
+use Rattle.protocol.specs.Write.{writerStores, writerEnds}
 use Rattle.protocol.specs.State.{excludedBy}
+use Rattle.counted.specs.Cell as Counted
+use Rattle.counted.specs.State.{lastStamp}
 use Rattle.register.specs.declared.calls.Called.{Called}
 
--- a table for n readers
-pub record TableOk (n cells : ℕ) : Type 0 where
+-- a table for n readers of a register with the rules R
+pub record TableOk (R : Rules) (n cells : ℕ) : Type 0 where
   pub n-low : 1 ≤ n
   pub n-high : n ≤ 16
-  pub cells-are : n * n + n ≤ cells
+  pub cells-are : R .cells n ≤ cells
 
 -- reader p with an open read in range
 pub record ReadOk (n p : ℕ) (r : Reader) : Type 0 where
@@ -37,6 +39,18 @@ pub record WriteOk (n : ℕ) (w : Writer) : Type 0 where
   pub moved-low : w .moved < 2 * n
   pub few : w .moved ≤ n → ones (excludedBy w) ≤ 2 + 3 * w .moved
 
+-- the same of the counted register
+pub record CountedReadOk (n p : ℕ) (r : Reader) : Type 0 where
+  pub p-low : 1 ≤ p
+  pub p-high : p ≤ n
+  pub n-high : n ≤ 16
+  pub moved-low : r .moved < 2 * n - 1
+
+pub record CountedWriteOk (n : ℕ) (w : Writer) : Type 0 where
+  pub n-high : n ≤ 16
+  pub moved-low : w .moved < n
+  pub count-low : w .count < lastStamp
+
 -- the writer behind a store
 abbrev pub storedWriter : ℕ → Writer → Writer
 storedWriter n w = pick (ltb (w .moved + 1) (2 * n)) (writerStores n w) (writerEnds n w)
@@ -50,12 +64,13 @@ readStepped r t = record { reader = r; table = t }
 abbrev pub outcome : Called → List ℕ → List ℕ → Outcome
 outcome c t l = record { answer = c .answer; state = c .state; table = t; log = l }
 
--- the words of the fresh cells, and the fresh table with them
-abbrev pub startWord : ℕ → ℕ
-startWord v = packCell (plain v (record { cur = 0; prev = 1 }))
+-- the words of a fresh cell from the writer, and of any other, and the fresh table with them
+abbrev pub ownWord : Bool → ℕ → ℕ → ℕ
+ownWord counted v fresh =
+    pick counted (Counted.packCell (record { value = v; stamp = fresh })) (packCell (plain v (record { cur = 0; prev = 1 })))
 
-abbrev pub voidWord : ℕ
-voidWord = packCell (plain 0 none)
+abbrev pub otherWord : Bool → ℕ → ℕ
+otherWord counted fresh = pick counted (Counted.packCell (record { value = 0; stamp = fresh })) (packCell (plain 0 none))
 
-abbrev pub freshWords : ℕ → ℕ → ℕ → List ℕ
-freshWords n first other = replicate n first ++ replicate (n * n) other
+abbrev pub freshWords : ℕ → ℕ → ℕ → ℕ → List ℕ
+freshWords n cells own other = replicate n own ++ replicate (cells - n) other

@@ -1,41 +1,33 @@
-// Begins and sub-steps.
+// Begins and sub-steps, of either register.
+use super::kinds::may_write;
+use super::kinds::read_step;
+use super::kinds::write_step;
 use super::range::open_in;
 use super::range::state_ok;
-use super::read::read_step;
-use super::write::write_step;
-use protocol::Answer;
-use protocol::Refusal;
-use protocol::State;
+use common::Answer;
+use common::Refusal;
+use common::State;
+use common::limits::has_room;
+use common::limits::is_processor;
+use common::rows::row_of;
 use reader::looks::value_in;
 use reader::state::open_reader;
-use words::row::Row;
 use writer::state::open_writer;
 ghost use mathlib.Core.Path.{_≡_};
 ghost use mathlib.Core.Bool.{true};
-ghost use Prim.Native.Nat.{_+_, _-_, _<_, _≤_};
+ghost use Prim.Native.Nat.{_-_, _≤_};
 ghost use lib.ListN.{length};
-ghost use Rattle.protocol.specs.Answers.{reply};
-ghost use Rattle.protocol.specs.State.{readerAt};
-ghost use Rattle.protocol.specs.InRange.{InRange};
-ghost use Rattle.protocol.specs.Calls.{rowOf, beginWriteOf, beginReadOf, stepWriter, stepReader, stepOf};
+ghost use Rattle.common.specs.Answers.{reply};
+ghost use Rattle.common.specs.State.{readerAt};
+ghost use Rattle.common.specs.Rules.{InRange};
+ghost use Rattle.common.specs.Register.{beginWriteOf, beginReadOf, stepWriter, stepReader, stepOf};
+ghost use Rattle.register.specs.Rules.{rulesOf};
 ghost use Rattle.register.specs.Contract.{outcome};
 
 // What a call gives: its answer, and the state to hand to the next one.
 pub struct Called {
     pub answer: Answer,
     pub state: State,
-}
-
-// A row of the log.
-pub(crate) fn row_of(kind: u8, processor: u32, value: u32) -> u64
-    requires { ⌜ processor < 256 ⌝ }
-    ensures { λ r. ⌜ r ≡ rowOf kind processor value ⌝ }
-{
-    words::row::pack(Row {
-        kind: kind,
-        processor: processor as u8,
-        value: value,
-    })
 }
 
 fn refuse(s: State, why: Refusal) -> Called
@@ -50,25 +42,30 @@ fn refuse(s: State, why: Refusal) -> Called
 
 // Begin a write of a value.
 pub fn begin_write(s: State, table: &mut [u64], log: &mut [u64], value: u32) -> Called
-    ensures { λ r. ⌜ (outcome r (now (table .exit)) (now (log .exit)) ≡ beginWriteOf s (now (table .entry)) (now (log .entry)) value)
-        × (reply (r .answer) ≡ reply (beginWriteOf s (now (table .entry)) (now (log .entry)) value .answer)) ⌝ }
+    ensures { λ r. ⌜ (outcome r (now (table .exit)) (now (log .exit)) ≡ beginWriteOf (rulesOf (s .head .counted)) s (now (table .entry)) (now (log .entry)) value)
+        × (reply (r .answer) ≡ reply (beginWriteOf (rulesOf (s .head .counted)) s (now (table .entry)) (now (log .entry)) value .answer)) ⌝ }
 {
     if state_ok(s, table.len(), log.len()) {
         let w = s.writer;
         if w.active {
             return refuse(s, Refusal::Busy);
         }
-        let used = s.used;
-        if used + open_in(s) + 2 <= s.rows {
-            log[used] = row_of(1, 0, value);
-            let next = open_writer(w, value);
-            let mut state = s;
-            state.used = used + 1;
-            state.writer = next;
-            return Called {
-                answer: Answer::Accepted,
-                state: state,
-            };
+        let h = s.head;
+        if has_room(h, open_in(s)) {
+            if may_write(h.counted, w) {
+                let used = h.used;
+                log[used] = row_of(1, 0, value);
+                let next = open_writer(w, value);
+                let mut state = s;
+                let more = used + 1;
+                state.head.used = more;
+                state.writer = next;
+                return Called {
+                    answer: Answer::Accepted,
+                    state: state,
+                };
+            }
+            return refuse(s, Refusal::Spent);
         }
         return refuse(s, Refusal::Full);
     }
@@ -77,22 +74,24 @@ pub fn begin_write(s: State, table: &mut [u64], log: &mut [u64], value: u32) -> 
 
 // Begin a read by reader p.
 pub fn begin_read(s: State, table: &mut [u64], log: &mut [u64], p: u32) -> Called
-    ensures { λ r. ⌜ (outcome r (now (table .exit)) (now (log .exit)) ≡ beginReadOf s (now (table .entry)) (now (log .entry)) p)
-        × (reply (r .answer) ≡ reply (beginReadOf s (now (table .entry)) (now (log .entry)) p .answer)) ⌝ }
+    ensures { λ r. ⌜ (outcome r (now (table .exit)) (now (log .exit)) ≡ beginReadOf (rulesOf (s .head .counted)) s (now (table .entry)) (now (log .entry)) p)
+        × (reply (r .answer) ≡ reply (beginReadOf (rulesOf (s .head .counted)) s (now (table .entry)) (now (log .entry)) p .answer)) ⌝ }
 {
     if state_ok(s, table.len(), log.len()) {
-        if (1 <= p) & (p <= s.n) {
+        let h = s.head;
+        if is_processor(h, 1, p) {
             let i = p as usize - 1;
             let r = s.readers[i];
             if r.active {
                 return refuse(s, Refusal::Busy);
             }
-            let used = s.used;
-            if used + open_in(s) + 2 <= s.rows {
-                log[used] = row_of(3, p, 0);
+            if has_room(h, open_in(s)) {
+                let used = h.used;
+                log[used] = row_of(3, p as u8, 0);
                 let next = open_reader(r);
                 let mut state = s;
-                state.used = used + 1;
+                let more = used + 1;
+                state.head.used = more;
                 state.readers[i] = next;
                 return Called {
                     answer: Answer::Accepted,
@@ -108,11 +107,12 @@ pub fn begin_read(s: State, table: &mut [u64], log: &mut [u64], p: u32) -> Calle
 
 // A sub-step of the open write.
 fn step_writer(s: State, table: &mut [u64], log: &mut [u64]) -> Called
-    requires { ⌜ InRange s (length (now table)) (length (now log)) × (s .writer .active ≡ true) ⌝ }
-    ensures { λ r. ⌜ outcome r (now (table .exit)) (now (log .exit)) ≡ stepWriter s (now (table .entry)) (now (log .entry)) ⌝ }
+    requires { ⌜ InRange (rulesOf (s .head .counted)) s (length (now table)) (length (now log)) × (s .writer .active ≡ true) ⌝ }
+    ensures { λ r. ⌜ outcome r (now (table .exit)) (now (log .exit)) ≡ stepWriter (rulesOf (s .head .counted)) s (now (table .entry)) (now (log .entry)) ⌝ }
 {
+    let h = s.head;
     let w = s.writer;
-    let next = write_step(w, s.n, table);
+    let next = write_step(h.counted, w, h.n, table);
     let answer = Answer::Moved(w.moved + 1);
     let mut state = s;
     state.writer = next;
@@ -122,9 +122,10 @@ fn step_writer(s: State, table: &mut [u64], log: &mut [u64]) -> Called
             state: state,
         };
     }
-    let used = s.used;
+    let used = h.used;
     log[used] = row_of(2, 0, 0);
-    state.used = used + 1;
+    let more = used + 1;
+    state.head.used = more;
     Called {
         answer: answer,
         state: state,
@@ -133,12 +134,13 @@ fn step_writer(s: State, table: &mut [u64], log: &mut [u64]) -> Called
 
 // A sub-step of reader p's open read.
 fn step_reader(s: State, table: &mut [u64], log: &mut [u64], p: u32) -> Called
-    requires { ⌜ InRange s (length (now table)) (length (now log)) × (1 ≤ p) × (p ≤ s .n) × (readerAt s (p - 1) .active ≡ true) ⌝ }
-    ensures { λ r. ⌜ outcome r (now (table .exit)) (now (log .exit)) ≡ stepReader s (now (table .entry)) (now (log .entry)) p ⌝ }
+    requires { ⌜ InRange (rulesOf (s .head .counted)) s (length (now table)) (length (now log)) × (1 ≤ p) × (p ≤ s .head .n) × (readerAt s (p - 1) .active ≡ true) ⌝ }
+    ensures { λ r. ⌜ outcome r (now (table .exit)) (now (log .exit)) ≡ stepReader (rulesOf (s .head .counted)) s (now (table .entry)) (now (log .entry)) p ⌝ }
 {
+    let h = s.head;
     let i = p as usize - 1;
     let r = s.readers[i];
-    let next = read_step(r, s.n, p, table);
+    let next = read_step(h.counted, r, h.n, p, table);
     let answer = Answer::Moved(r.moved + 1);
     let mut state = s;
     state.readers[i] = next;
@@ -148,9 +150,10 @@ fn step_reader(s: State, table: &mut [u64], log: &mut [u64], p: u32) -> Called
             state: state,
         };
     }
-    let used = s.used;
-    log[used] = row_of(4, p, value_in(next.result));
-    state.used = used + 1;
+    let used = h.used;
+    log[used] = row_of(4, p as u8, value_in(next.result));
+    let more = used + 1;
+    state.head.used = more;
     Called {
         answer: answer,
         state: state,
@@ -159,11 +162,11 @@ fn step_reader(s: State, table: &mut [u64], log: &mut [u64], p: u32) -> Called
 
 // A sub-step of processor p.
 pub fn step(s: State, table: &mut [u64], log: &mut [u64], p: u32) -> Called
-    ensures { λ r. ⌜ (outcome r (now (table .exit)) (now (log .exit)) ≡ stepOf s (now (table .entry)) (now (log .entry)) p)
-        × (reply (r .answer) ≡ reply (stepOf s (now (table .entry)) (now (log .entry)) p .answer)) ⌝ }
+    ensures { λ r. ⌜ (outcome r (now (table .exit)) (now (log .exit)) ≡ stepOf (rulesOf (s .head .counted)) s (now (table .entry)) (now (log .entry)) p)
+        × (reply (r .answer) ≡ reply (stepOf (rulesOf (s .head .counted)) s (now (table .entry)) (now (log .entry)) p .answer)) ⌝ }
 {
     if state_ok(s, table.len(), log.len()) {
-        if p <= s.n {
+        if is_processor(s.head, 0, p) {
             if p == 0 {
                 let w = s.writer;
                 if w.active {

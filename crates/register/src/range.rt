@@ -1,43 +1,39 @@
 // Question 4.
-use protocol::State;
-use reader::state::reader_ok;
-use writer::state::writer_ok;
+use super::kinds::cells_of;
+use super::kinds::reader_ok;
+use super::kinds::writer_ok;
+use common::State;
+use common::limits::count_one;
+use common::limits::head_ok;
 ghost use mathlib.Core.Path.{_≡_};
 ghost use Prim.Native.Nat.{_≤_};
-ghost use Rattle.protocol.specs.Counting.{one};
-ghost use Rattle.protocol.specs.State.{openReaders, openIn, sizesOk, readersOk, stateOk};
+ghost use Rattle.common.specs.State.{openReaders, openIn};
+ghost use Rattle.common.specs.Rules.{readersOk, stateOk};
+ghost use Rattle.register.specs.Rules.{rulesOf};
 
 fn readers_ok(s: State) -> bool
-    requires { ⌜ s .n ≤ 16 ⌝ }
-    ensures { λ b. ⌜ b ≡ readersOk s ⌝ }
+    requires { ⌜ s .head .n ≤ 16 ⌝ }
+    ensures { λ b. ⌜ b ≡ readersOk (rulesOf (s .head .counted)) s ⌝ }
 {
-    let n = s.n;
+    let counted = s.head.counted;
+    let n = s.head.n;
     let mut ok = true;
     let mut i: usize = 0;
     while i < n as usize {
         let r = s.readers[i];
-        let one = reader_ok(r, n as u8);
+        let one = reader_ok(counted, r, n as u8);
         ok = ok & one;
         i += 1;
     }
     ok
 }
 
-fn count_one(active: bool) -> usize
-    ensures { λ m. ⌜ m ≡ one active ⌝ }
-{
-    if active {
-        return 1;
-    }
-    0
-}
-
 // The readers with an open read.
 fn open_readers(s: State) -> usize
-    requires { ⌜ s .n ≤ 16 ⌝ }
+    requires { ⌜ s .head .n ≤ 16 ⌝ }
     ensures { λ m. ⌜ m ≡ openReaders s ⌝ }
 {
-    let n = s.n;
+    let n = s.head.n;
     let mut m: usize = 0;
     let mut i: usize = 0;
     while i < n as usize {
@@ -50,36 +46,24 @@ fn open_readers(s: State) -> usize
 
 // The open operations.
 pub(crate) fn open_in(s: State) -> usize
-    requires { ⌜ s .n ≤ 16 ⌝ }
-    ensures { λ m. ⌜ (m ≡ openIn s) × (m ≤ 17) ⌝ }
+    requires { ⌜ s .head .n ≤ 16 ⌝ }
+    ensures { λ m. ⌜ m ≡ openIn s ⌝ }
 {
     let readers = open_readers(s);
     count_one(s.writer.active) + readers
 }
 
-fn sizes_ok(n: u32, rows: usize, used: usize, cells: usize, log: usize) -> bool
-    ensures { λ r. ⌜ r ≡ sizesOk n rows used cells log ⌝ }
-{
-    if 16 < n {
-        return false;
-    }
-    let m = n as usize;
-    (1 <= n)
-        & ((n <= 16)
-            & ((m * m + m <= cells)
-                & ((log == rows)
-                    & ((3 <= rows) & ((rows <= 4096) & ((1 <= used) & (used <= rows)))))))
-}
-
 // Whether the state is in range, with a table of so many cells and a log of so many rows.
 pub(crate) fn state_ok(s: State, cells: usize, log: usize) -> bool
-    ensures { λ r. ⌜ r ≡ stateOk s cells log ⌝ }
+    ensures { λ r. ⌜ r ≡ stateOk (rulesOf (s .head .counted)) s cells log ⌝ }
 {
-    if sizes_ok(s.n, s.rows, s.used, cells, log) {
-        let open = open_in(s);
-        let writer = writer_ok(s.writer, s.n as u8);
+    let h = s.head;
+    if h.n <= 16 {
+        let need = cells_of(h.counted, h.n);
+        let head = head_ok(need, h, open_in(s), cells, log);
+        let writer = writer_ok(h.counted, s.writer, h.n as u8);
         let readers = readers_ok(s);
-        return (s.used + open <= s.rows) & (writer & readers);
+        return head & (writer & readers);
     }
     false
 }

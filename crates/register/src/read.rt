@@ -1,12 +1,12 @@
-// A sub-step of a read.
+// A sub-step of a read of the first register.
 use super::cells::store_cell;
 use super::cells::word_from;
-use protocol::Reader;
+use common::Reader;
+use common::others::other_reader;
 use reader::looks::looks_again;
 use reader::looks::looks_at_other;
 use reader::looks::looks_first;
 use reader::looks::looks_third;
-use reader::looks::other_reader;
 use reader::looks::stamp_in;
 use reader::result::announcement;
 use reader::result::ends;
@@ -15,13 +15,14 @@ use reader::result::shown;
 ghost use mathlib.Core.Path.{_≡_};
 ghost use Prim.Native.Nat.{_+_, _<_, _≤_};
 ghost use lib.ListN.{length};
-ghost use Rattle.protocol.specs.Read.{counted, attemptStep, resultStep, since, readStep};
+ghost use Rattle.protocol.specs.Rules.{ticketRules};
+ghost use Rattle.protocol.specs.Read.{movedOn, attemptStep, resultStep, since, readStep};
 ghost use Rattle.register.specs.Contract.{TableOk, ReadOk, readStepped};
 
 // A word more, and nothing else.
 fn count_word(r: Reader) -> Reader
     requires { ⌜ r .moved < 200 ⌝ }
-    ensures { λ q. ⌜ q ≡ counted r ⌝ }
+    ensures { λ q. ⌜ q ≡ movedOn r ⌝ }
 {
     let mut next = r;
     next.active = true;
@@ -31,7 +32,7 @@ fn count_word(r: Reader) -> Reader
 
 // Sub-step l, from 0, of an attempt.
 fn attempt_step(r: Reader, n: u32, p: u32, l: u32, table: &mut [u64]) -> Reader
-    requires { ⌜ TableOk n (length (now table)) × ReadOk n p r × (l < n + 3) ⌝ }
+    requires { ⌜ TableOk ticketRules n (length (now table)) × ReadOk n p r × (l < n + 3) ⌝ }
     ensures { λ q. ⌜ readStepped q (now (table .exit)) ≡ attemptStep n p l r (now (table .entry)) ⌝ }
 {
     let next = count_word(r);
@@ -59,7 +60,7 @@ fn attempt_step(r: Reader, n: u32, p: u32, l: u32, table: &mut [u64]) -> Reader
 
 // Store k, from 0, of the result.
 fn result_step(r: Reader, n: u32, p: u32, k: u32, table: &mut [u64]) -> Reader
-    requires { ⌜ TableOk n (length (now table)) × ReadOk n p r × (k < n) ⌝ }
+    requires { ⌜ TableOk ticketRules n (length (now table)) × ReadOk n p r × (k < n) ⌝ }
     ensures { λ q. ⌜ readStepped q (now (table .exit)) ≡ resultStep n p k r (now (table .entry)) ⌝ }
 {
     let next = count_word(r);
@@ -89,7 +90,7 @@ fn words_since(r: Reader, n: u32, p: u32) -> u32
 
 // A sub-step of reader p's open read.
 pub(crate) fn read_step(r: Reader, n: u32, p: u32, table: &mut [u64]) -> Reader
-    requires { ⌜ TableOk n (length (now table)) × ReadOk n p r ⌝ }
+    requires { ⌜ TableOk ticketRules n (length (now table)) × ReadOk n p r ⌝ }
     ensures { λ q. ⌜ readStepped q (now (table .exit)) ≡ readStep n p r (now (table .entry)) ⌝ }
 {
     let l = words_since(r, n, p);

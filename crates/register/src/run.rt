@@ -3,17 +3,24 @@ use super::calls::Called;
 use super::calls::begin_read;
 use super::calls::begin_write;
 use super::calls::step;
-use super::set_up::set_up;
-use protocol::Answer;
-use protocol::Refusal;
-use protocol::State;
+use super::set_up::set_up_of;
+use common::Answer;
+use common::State;
+use common::numbers::answer_word;
+use common::numbers::is_call;
 ghost use mathlib.Core.Path.{_≡_};
-ghost use Prim.Native.Nat.{_≤_};
-ghost use Rattle.protocol.specs.Answers.{refusalNumber};
-ghost use Rattle.protocol.specs.Runs.{callOf};
+ghost use Rattle.common.specs.CallWords.{callIn};
+ghost use Rattle.common.specs.SetUp.{setUpOf};
+ghost use Rattle.common.specs.Register.{callOf};
+ghost use Rattle.protocol.specs.Rules.{ticketRules};
+ghost use Rattle.protocol.specs.Reference as first-book;
+ghost use Rattle.protocol.specs.Whole as first-whole;
+ghost use Rattle.counted.specs.Rules.{countedRules};
+ghost use Rattle.counted.specs.Reference as counted-book;
+ghost use Rattle.counted.specs.Whole as counted-whole;
+ghost use Rattle.register.specs.Rules.{rulesOf};
 ghost use Rattle.register.specs.Contract.{outcome};
-ghost use Rattle.protocol.specs.SetUp.{setUpOf};
-ghost use Rattle.register.specs.Run.{isCall, callIn, answerWord, madeOf, madeCalls, runWordsOf, WholeRun};
+ghost use Rattle.register.specs.Run.{madeOf, madeCalls, runWordsOf, WholeRun};
 
 // How many calls were made, and the state behind them.
 pub struct Made {
@@ -27,42 +34,9 @@ pub struct Ran {
     pub calls: Made,
 }
 
-// Document 01's number of a refusal.
-pub fn refusal_number(r: Refusal) -> u64
-    ensures { λ k. ⌜ (k ≡ refusalNumber r) × (k ≤ 8) ⌝ }
-{
-    match r {
-        Refusal::Readers => 1,
-        Refusal::Cells => 2,
-        Refusal::Rows => 3,
-        Refusal::Range => 4,
-        Refusal::Processor => 5,
-        Refusal::Busy => 6,
-        Refusal::Full => 7,
-        Refusal::Idle => 8,
-    }
-}
-
-fn answer_word(a: Answer) -> u64
-    ensures { λ w. ⌜ w ≡ answerWord a ⌝ }
-{
-    match a {
-        Answer::Accepted => 0,
-        Answer::Moved(k) => k as u64,
-        Answer::Refused(r) => refusal_number(r) * 4294967296,
-    }
-}
-
-fn is_call(word: u64) -> bool
-    ensures { λ r. ⌜ r ≡ isCall word ⌝ }
-{
-    let kind = word / 4294967296 % 4294967296;
-    (kind == 1) | ((kind == 2) | (kind == 3))
-}
-
 // The call in a word.
 fn make_call(s: State, table: &mut [u64], log: &mut [u64], word: u64) -> Called
-    ensures { λ r. ⌜ outcome r (now (table .exit)) (now (log .exit)) ≡ callOf s (now (table .entry)) (now (log .entry)) (callIn word) ⌝ }
+    ensures { λ r. ⌜ outcome r (now (table .exit)) (now (log .exit)) ≡ callOf (rulesOf (s .head .counted)) s (now (table .entry)) (now (log .entry)) (callIn word) ⌝ }
 {
     let kind = word / 4294967296 % 4294967296;
     let number = (word % 4294967296) as u32;
@@ -83,7 +57,7 @@ fn make_calls(
     log: &mut [u64],
     answers: &mut [u64],
 ) -> Made
-    ensures { λ r. ⌜ madeCalls r (now (table .exit)) (now (log .exit)) (now (answers .exit)) ≡ madeOf s (now (table .entry)) (now (log .entry)) (now (words .entry)) (now (answers .entry)) ⌝ }
+    ensures { λ r. ⌜ madeCalls r (now (table .exit)) (now (log .exit)) (now (answers .exit)) ≡ madeOf (rulesOf (s .head .counted)) s (now (table .entry)) (now (log .entry)) (now (words .entry)) (now (answers .entry)) ⌝ }
 {
     let mut state = s;
     let mut i = 0;
@@ -108,22 +82,21 @@ fn make_calls(
     }
 }
 
-// Set-up, and then the calls in the words, with their answers; no call if set-up is refused. A word's upper half is the call's kind,
-// 1 begin a write, 2 begin a read, 3 a sub-step, and its lower half the number. An answer's upper half is the refusal number, and its
-// lower half the sub-step's. The calls end at the first word that is none, and where the answers have no place left.
-pub fn run(
+// Set-up of a kind, and then the calls in the words, with their answers; no call if set-up is refused.
+fn run_of(
+    counted: bool,
     n: u32,
     value: u32,
+    fresh: u32,
     words: &[u64],
     table: &mut [u64],
     log: &mut [u64],
     answers: &mut [u64],
 ) -> Ran
-    ensures { λ r. ⌜ (r .answer ≡ setUpOf n value (now (table .entry)) (now (log .entry)) .answer)
-        × (madeCalls (r .calls) (now (table .exit)) (now (log .exit)) (now (answers .exit)) ≡ runWordsOf n value (now (words .entry)) (now (table .entry)) (now (log .entry)) (now (answers .entry)))
-        × (r .answer ≡ Answer.Accepted → WholeRun n value (now (table .entry)) (now (log .entry)) (now (words .entry)) (now (answers .entry)) (madeCalls (r .calls) (now (table .exit)) (now (log .exit)) (now (answers .exit)))) ⌝ }
+    ensures { λ r. ⌜ (r .answer ≡ setUpOf (rulesOf counted) n value fresh (now (table .entry)) (now (log .entry)) .answer)
+        × (madeCalls (r .calls) (now (table .exit)) (now (log .exit)) (now (answers .exit)) ≡ runWordsOf (rulesOf counted) n value fresh (now (words .entry)) (now (table .entry)) (now (log .entry)) (now (answers .entry))) ⌝ }
 {
-    let o = set_up(n, value, table, log);
+    let o = set_up_of(counted, n, value, fresh, table, log);
     let answer = o.answer;
     let state = o.state;
     if answer_word(answer) == 0 {
@@ -141,4 +114,39 @@ pub fn run(
         answer: answer,
         calls: calls,
     }
+}
+
+// Set-up, and then the calls in the words, with their answers; no call if set-up is refused. A word's upper half is the call's kind,
+// 1 begin a write, 2 begin a read, 3 a sub-step, and its lower half the number. An answer's upper half is the refusal number, and its
+// lower half the sub-step's. The calls end at the first word that is none, and where the answers have no place left.
+pub fn run(
+    n: u32,
+    value: u32,
+    words: &[u64],
+    table: &mut [u64],
+    log: &mut [u64],
+    answers: &mut [u64],
+) -> Ran
+    ensures { λ r. ⌜ (r .answer ≡ setUpOf ticketRules n value 0 (now (table .entry)) (now (log .entry)) .answer)
+        × (madeCalls (r .calls) (now (table .exit)) (now (log .exit)) (now (answers .exit)) ≡ runWordsOf ticketRules n value 0 (now (words .entry)) (now (table .entry)) (now (log .entry)) (now (answers .entry)))
+        × (r .answer ≡ Answer.Accepted → WholeRun ticketRules first-book.book (first-whole.Whole n value (now (table .entry)) (now (log .entry))) n value 0 (now (table .entry)) (now (log .entry)) (now (words .entry)) (now (answers .entry)) (madeCalls (r .calls) (now (table .exit)) (now (log .exit)) (now (answers .exit)))) ⌝ }
+{
+    run_of(false, n, value, 0, words, table, log, answers)
+}
+
+// The same of the counted register, with a fresh stamp too.
+pub fn run_counted(
+    n: u32,
+    value: u32,
+    fresh: u32,
+    words: &[u64],
+    table: &mut [u64],
+    log: &mut [u64],
+    answers: &mut [u64],
+) -> Ran
+    ensures { λ r. ⌜ (r .answer ≡ setUpOf countedRules n value fresh (now (table .entry)) (now (log .entry)) .answer)
+        × (madeCalls (r .calls) (now (table .exit)) (now (log .exit)) (now (answers .exit)) ≡ runWordsOf countedRules n value fresh (now (words .entry)) (now (table .entry)) (now (log .entry)) (now (answers .entry)))
+        × (r .answer ≡ Answer.Accepted → WholeRun countedRules counted-book.book (counted-whole.Whole n value fresh (now (table .entry)) (now (log .entry))) n value fresh (now (table .entry)) (now (log .entry)) (now (words .entry)) (now (answers .entry)) (madeCalls (r .calls) (now (table .exit)) (now (log .exit)) (now (answers .exit)))) ⌝ }
+{
+    run_of(true, n, value, fresh, words, table, log, answers)
 }

@@ -1,120 +1,123 @@
 // Set-up.
 use super::calls::Called;
-use super::calls::row_of;
-use protocol::Answer;
-use protocol::Refusal;
-use protocol::State;
+use super::kinds::cells_of;
+use super::kinds::other_word;
+use super::kinds::own_word;
+use common::Answer;
+use common::Head;
+use common::Refusal;
+use common::State;
+use common::rows::row_of;
 use reader::state::fresh_reader;
-use words::cell::Cell;
-use words::stamp::Stamp;
 use writer::state::fresh_writer;
 ghost use mathlib.Core.Path.{_≡_};
 ghost use mathlib.Core.List.{_++_};
-ghost use Prim.Native.Nat.{_+_, _*_, _≤_};
+ghost use Prim.Native.Nat.{_≤_};
 ghost use lib.ListN.{length, drop};
 ghost use lib.Dec.{ltb};
 ghost use Rattle.words.specs.Choice.{pick};
-ghost use Rattle.words.specs.Stamp.{none};
-ghost use Rattle.protocol.specs.Answers.{reply};
-ghost use Rattle.protocol.specs.SetUp.{freshState, noState, setUpOf};
-ghost use Rattle.register.specs.Contract.{outcome, startWord, voidWord, freshWords};
+ghost use Rattle.common.specs.Answers.{reply};
+ghost use Rattle.common.specs.SetUp.{freshState, noState, setUpOf};
+ghost use Rattle.protocol.specs.Rules.{ticketRules};
+ghost use Rattle.counted.specs.Rules.{countedRules};
+ghost use Rattle.register.specs.Rules.{rulesOf};
+ghost use Rattle.register.specs.Contract.{outcome, freshWords};
 
-// The word of a fresh cell from the writer.
-fn start_word(value: u32) -> u64
-    ensures { λ r. ⌜ r ≡ startWord value ⌝ }
-{
-    let stamp = Stamp { cur: 0, prev: 1 };
-    let none = words::stamp::no_stamp();
-    words::cell::pack(Cell {
-        value: value,
-        stamp: stamp,
-        announced: none,
-    })
-}
-
-// The word of any other fresh cell.
-fn void_word() -> u64
-    ensures { λ r. ⌜ r ≡ voidWord ⌝ }
-{
-    let none = words::stamp::no_stamp();
-    words::cell::pack(Cell {
-        value: 0,
-        stamp: none,
-        announced: none,
-    })
-}
-
-fn fresh_word(i: usize, n: usize, first: u64, other: u64) -> u64
-    ensures { λ r. ⌜ r ≡ pick (ltb i n) first other ⌝ }
+fn fresh_word(i: usize, n: usize, own: u64, other: u64) -> u64
+    ensures { λ r. ⌜ r ≡ pick (ltb i n) own other ⌝ }
 {
     if i < n {
-        return first;
+        return own;
     }
     other
 }
 
-// The fresh cells, at the table's front.
-fn fill(table: &mut [u64], n: u32, first: u64, other: u64)
-    requires { ⌜ (n ≤ 16) × (n * n + n ≤ length (now table)) ⌝ }
-    ensures { λ r. ⌜ now (table .exit) ≡ freshWords n first other ++ drop (n * n + n) (now (table .entry)) ⌝ }
+// The fresh cells, at the table's front: the writer's first.
+fn fill(table: &mut [u64], n: usize, cells: usize, own: u64, other: u64)
+    requires { ⌜ (n ≤ cells) × (cells ≤ length (now table)) ⌝ }
+    ensures { λ r. ⌜ now (table .exit) ≡ freshWords n cells own other ++ drop cells (now (table .entry)) ⌝ }
 {
-    let m = n as usize;
-    let cells = m * m + m;
     let mut i = 0;
     while i < cells {
-        table[i] = fresh_word(i, m, first, other);
+        table[i] = fresh_word(i, n, own, other);
         i += 1;
     }
 }
 
-fn fresh_state(n: u32, rows: usize) -> State
-    ensures { λ r. ⌜ r ≡ freshState n rows ⌝ }
+fn fresh_state(counted: bool, n: u32, fresh: u32, rows: usize) -> State
+    ensures { λ r. ⌜ r ≡ freshState counted n fresh rows ⌝ }
 {
-    let writer = fresh_writer();
-    let reader = fresh_reader();
-    let readers = [reader; 16];
-    State {
+    let head = Head {
+        counted: counted,
         n: n,
         rows: rows,
         used: 1,
+    };
+    let writer = fresh_writer(fresh);
+    let reader = fresh_reader();
+    let readers = [reader; 16];
+    State {
+        head: head,
         writer: writer,
         readers: readers,
     }
 }
 
-fn no_set_up(why: Refusal) -> Called
-    ensures { λ c. ⌜ (c .answer ≡ Answer.Refused why) × (c .state ≡ noState) ⌝ }
+fn no_set_up(counted: bool, why: Refusal) -> Called
+    ensures { λ c. ⌜ (c .answer ≡ Answer.Refused why) × (c .state ≡ noState counted) ⌝ }
 {
-    let state = fresh_state(0, 0);
+    let state = fresh_state(counted, 0, 0, 0);
     Called {
         answer: Answer::Refused(why),
         state: state,
     }
 }
 
-// A fresh register of n readers with a start value, in the lent table and log.
-pub fn set_up(n: u32, value: u32, table: &mut [u64], log: &mut [u64]) -> Called
-    ensures { λ r. ⌜ (outcome r (now (table .exit)) (now (log .exit)) ≡ setUpOf n value (now (table .entry)) (now (log .entry)))
-        × (reply (r .answer) ≡ reply (setUpOf n value (now (table .entry)) (now (log .entry)) .answer)) ⌝ }
+// A fresh register of a kind.
+pub(crate) fn set_up_of(
+    counted: bool,
+    n: u32,
+    value: u32,
+    fresh: u32,
+    table: &mut [u64],
+    log: &mut [u64],
+) -> Called
+    ensures { λ r. ⌜ outcome r (now (table .exit)) (now (log .exit)) ≡ setUpOf (rulesOf counted) n value fresh (now (table .entry)) (now (log .entry)) ⌝ }
 {
     if (1 <= n) & (n <= 16) {
-        let m = n as usize;
-        if m * m + m <= table.len() {
+        let cells = cells_of(counted, n);
+        if cells <= table.len() {
             let rows = log.len();
             if (3 <= rows) & (rows <= 4096) {
-                let first = start_word(value);
-                let other = void_word();
-                fill(table, n, first, other);
-                log[0] = row_of(5, n, value);
-                let state = fresh_state(n, rows);
+                let own = own_word(counted, value, fresh);
+                let other = other_word(counted, fresh);
+                fill(table, n as usize, cells, own, other);
+                log[0] = row_of(5, n as u8, value);
+                let state = fresh_state(counted, n, fresh, rows);
                 return Called {
                     answer: Answer::Accepted,
                     state: state,
                 };
             }
-            return no_set_up(Refusal::Rows);
+            return no_set_up(counted, Refusal::Rows);
         }
-        return no_set_up(Refusal::Cells);
+        return no_set_up(counted, Refusal::Cells);
     }
-    no_set_up(Refusal::Readers)
+    no_set_up(counted, Refusal::Readers)
+}
+
+// A fresh register of n readers with a start value, in the lent table and log.
+pub fn set_up(n: u32, value: u32, table: &mut [u64], log: &mut [u64]) -> Called
+    ensures { λ r. ⌜ (outcome r (now (table .exit)) (now (log .exit)) ≡ setUpOf ticketRules n value 0 (now (table .entry)) (now (log .entry)))
+        × (reply (r .answer) ≡ reply (setUpOf ticketRules n value 0 (now (table .entry)) (now (log .entry)) .answer)) ⌝ }
+{
+    set_up_of(false, n, value, 0, table, log)
+}
+
+// A fresh counted register, with a fresh stamp too.
+pub fn set_up_counted(n: u32, value: u32, fresh: u32, table: &mut [u64], log: &mut [u64]) -> Called
+    ensures { λ r. ⌜ (outcome r (now (table .exit)) (now (log .exit)) ≡ setUpOf countedRules n value fresh (now (table .entry)) (now (log .entry)))
+        × (reply (r .answer) ≡ reply (setUpOf countedRules n value fresh (now (table .entry)) (now (log .entry)) .answer)) ⌝ }
+{
+    set_up_of(true, n, value, fresh, table, log)
 }

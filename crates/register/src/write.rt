@@ -1,7 +1,7 @@
-// A sub-step of a write.
+// A sub-step of a write of the first register.
 use super::cells::store_cell;
 use super::cells::word_from;
-use protocol::Writer;
+use common::Writer;
 use words::cell::Cell;
 use words::stamp::Stamp;
 use writer::state::ticket_of;
@@ -9,12 +9,13 @@ use writer::tickets::with_cell;
 ghost use mathlib.Core.Path.{_≡_};
 ghost use Prim.Native.Nat.{_+_, _-_, _*_, _<_, _≤_};
 ghost use lib.ListN.{length};
+ghost use Rattle.protocol.specs.Rules.{ticketRules};
 ghost use Rattle.protocol.specs.Write.{writerReads, ticketOf, writeStep};
 ghost use Rattle.register.specs.Contract.{TableOk, WriteOk, storedWriter, writeStepped};
 
 // The next reader's cell is read.
 fn reads_cell(w: Writer, n: u32, table: &[u64]) -> Writer
-    requires { ⌜ TableOk n (length (now table)) × (w .moved < n) ⌝ }
+    requires { ⌜ TableOk ticketRules n (length (now table)) × (w .moved < n) ⌝ }
     ensures { λ r. ⌜ r ≡ writerReads n w (now (table .entry)) ⌝ }
 {
     let word = word_from(table, n, w.moved as u32 + 1, 0);
@@ -49,7 +50,7 @@ fn stored(w: Writer, n: u32, ticket: u8) -> Writer
 
 // A sub-step of the open write.
 pub(crate) fn write_step(w: Writer, n: u32, table: &mut [u64]) -> Writer
-    requires { ⌜ TableOk n (length (now table)) × WriteOk n w ⌝ }
+    requires { ⌜ TableOk ticketRules n (length (now table)) × WriteOk n w ⌝ }
     ensures { λ r. ⌜ writeStepped r (now (table .exit)) ≡ writeStep n w (now (table .entry)) ⌝ }
 {
     if (w.moved as u32) < n {

@@ -1,3 +1,5 @@
 pub mod Session
+pub mod Lent
+pub mod Counted
 pub mod Table
 pub mod TwoChoices

@@ -1,5 +1,5 @@
 -- A session: what is done, and what is to come of it.
-use Prim.Native.Nat.{ℕ, _+_, _*_}
+use Prim.Native.Nat.{ℕ, _+_}
 use mathlib.Core.Bool.{Bool, true, false, not, _&&_}
 use mathlib.Core.List.{List, [], _∷_}
 use lib.Dec.{eqb}
@@ -13,15 +13,30 @@ use Rattle.words.specs.Row.{packRow, unpackRow}
 use Rattle.history.specs.History.{historyOf}
 use Rattle.history.specs.Chosen.{chosen, readsFrom, regular, uninverted}
 use Rattle.judge.specs.Answer.{answerOf, orderOf}
-use Rattle.protocol.specs.declared.Answer.{Answer}
-use Rattle.protocol.specs.Answers.{numberOf, subStepOf}
-use Rattle.protocol.specs.SetUp.{setUpOf}
-use Rattle.protocol.specs.Reference.{Call, freshModel, kept}
-use Rattle.protocol.specs.Runs.{ranFrom}
+use Rattle.common.specs.declared.Answer.{Answer}
+use Rattle.common.specs.Answers.{numberOf, subStepOf}
+use Rattle.common.specs.Calls.{Call}
+use Rattle.common.specs.Rules.{Rules}
+use Rattle.common.specs.SetUp.{setUpOf}
+use Rattle.common.specs.Register.{ranFrom}
+use Rattle.common.specs.Book.{Telling, freshModel, kept}
+use Rattle.protocol.specs.Rules.{ticketRules}
+use Rattle.protocol.specs.Reference.{book as ticketBook}
+use Rattle.counted.specs.declared.Cell.{Cell as CountedCell}
+use Rattle.counted.specs.Cell.{packCell as packCounted, unpackCell as unpackCounted}
+use Rattle.counted.specs.Rules.{countedRules}
+use Rattle.counted.specs.Reference.{book as countedBook}
+
+-- the first register; the counted one, with the fresh stamp that is handed over
+pub data Register : Type 0 where
+  tickets : Register
+  counting : (fresh : ℕ) → Register
 
 pub data Session : Type 0 where
   -- a cell and its word
   cell : Cell → ℕ → Session
+  -- a cell of the counted register and its word
+  countedCell : CountedCell → ℕ → Session
   -- a row of the log and its word
   row : Row → ℕ → Session
   -- a log that is judged, with the places for its order; the answer's number and values, and the places after the call
@@ -30,9 +45,9 @@ pub data Session : Type 0 where
   -- choice, and whether no two reads are inverted
   tried : (log : List ℕ) (choice : List (ℕ × ℕ)) (isRegular isUninverted : Bool) → Session
   -- a set-up of n readers with start reading v on a lent table and log, refused by its number
-  denied : (n v : ℕ) (table log : List ℕ) (number : ℕ) → Session
+  denied : (g : Register) (n v : ℕ) (table log : List ℕ) (number : ℕ) → Session
   -- an accepted one and the calls behind it; their answers as numbers, and the whole table and log after the last
-  run : (n v : ℕ) (table log : List ℕ) (calls : List Call) (answers cells rows : List ℕ) → Session
+  run : (g : Register) (n v : ℕ) (table log : List ℕ) (calls : List Call) (answers cells rows : List ℕ) → Session
 
 abbrev sameCell : Cell → Cell → Bool
 sameCell a b = eqb (a .value) (b .value) && (same (a .stamp) (b .stamp) && same (a .announced) (b .announced))
@@ -57,22 +72,35 @@ abbrev allTold : List Answer → List ℕ
 allTold [] = []
 allTold (a ∷ rest) = told a ∷ allTold rest
 
+abbrev rulesFor : Register → Rules
+rulesFor tickets = ticketRules
+rulesFor (counting fresh) = countedRules
+
+abbrev firstOf : Register → ℕ
+firstOf tickets = 0
+firstOf (counting fresh) = fresh
+
 -- what the definitions of the calls give: answers, table and log
-unfoldable pub asDefined : ℕ → ℕ → List ℕ → List ℕ → List Call → List ℕ → List ℕ → List ℕ → Bool
-asDefined n v t l calls answers cells rows =
-    let r = ranFrom n v t l calls in
+unfoldable pub asDefined : Register → ℕ → ℕ → List ℕ → List ℕ → List Call → List ℕ → List ℕ → List ℕ → Bool
+asDefined g n v t l calls answers cells rows =
+    let r = ranFrom (rulesFor g) n v (firstOf g) t l calls in
     sameList (allTold (r .answers)) answers && (sameList (r .table) cells && sameList (r .log) rows)
 
--- what the book gives: answers, the n²+n cells and the used rows, of which there are so many
-unfoldable pub asModelled : ℕ → ℕ → ℕ → ℕ → List Call → List ℕ → List ℕ → List ℕ → Bool
-asModelled n v len used calls answers cells rows =
-    let k = kept n len (freshModel n v) calls in
+-- what a book gives: answers, its cells and the used rows, of which there are so many
+unfoldable pub inBook : {Stamp Cell : Type 0} → Telling Stamp Cell → Register → ℕ → ℕ → ℕ → ℕ → List Call → List ℕ → List ℕ → List ℕ → Bool
+inBook B g n v len used calls answers cells rows =
+    let k = kept B n len (freshModel B n v (firstOf g)) calls in
     sameList (allTold (k .answers)) answers
-    && (sameList (k .model .table) (take (n * n + n) cells) && sameList (k .model .rows) (take used rows))
+    && (sameList (k .model .table) (take (rulesFor g .cells n) cells) && sameList (k .model .rows) (take used rows))
+
+abbrev asModelled : Register → ℕ → ℕ → ℕ → ℕ → List Call → List ℕ → List ℕ → List ℕ → Bool
+asModelled tickets = inBook ticketBook tickets
+asModelled (counting fresh) = inBook countedBook (counting fresh)
 
 -- whether it comes out so, both ways where there are two
 unfoldable pub holds : Session → Bool
 holds (cell c w) = eqb (packCell c) w && sameCell (unpackCell w) c
+holds (countedCell c w) = eqb (packCounted c) w && (eqb (unpackCounted w .value) (c .value) && eqb (unpackCounted w .stamp) (c .stamp))
 holds (row r w) = eqb (packRow r) w && sameRow (unpackRow w) r
 holds (judged log o n vs e) =
     let a = answerOf log (length o) in
@@ -81,13 +109,13 @@ holds (tried log choice isRegular isUninverted) =
     let h = historyOf log in
     let f = chosen choice in
     readsFrom h f && (sameBool (regular h f) isRegular && sameBool (uninverted h f) isUninverted)
-holds (denied n v t l number) =
-    let o = setUpOf n v t l in
+holds (denied g n v t l number) =
+    let o = setUpOf (rulesFor g) n v (firstOf g) t l in
     eqb (told (o .answer)) (100 + number) && (sameList (o .table) t && sameList (o .log) l)
-holds (run n v t l calls answers cells rows) =
-    eqb (told (setUpOf n v t l .answer)) 0
-    && (asDefined n v t l calls answers cells rows
-    && asModelled n v (length l) (ranFrom n v t l calls .state .used) calls answers cells rows)
+holds (run g n v t l calls answers cells rows) =
+    let used = ranFrom (rulesFor g) n v (firstOf g) t l calls .state .head .used in
+    eqb (told (setUpOf (rulesFor g) n v (firstOf g) t l .answer)) 0
+    && (asDefined g n v t l calls answers cells rows && asModelled g n v (length l) used calls answers cells rows)
 
 abbrev pub all : List Session → Bool
 all [] = true

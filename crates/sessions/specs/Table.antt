@@ -2,14 +2,15 @@
 use Prim.Native.Nat.{ℕ}
 use mathlib.Core.Bool.{true, false}
 use mathlib.Core.List.{List, [], _∷_, _++_}
-use lib.ListN.{replicate}
 use Rattle.words.specs.declared.stamp.Stamp.{Stamp}
 use Rattle.words.specs.declared.cell.Cell.{Cell}
 use Rattle.words.specs.declared.row.Row.{Row}
 use Rattle.words.specs.Stamp.{none}
 use Rattle.words.specs.Row.{packRow}
-use Rattle.protocol.specs.Reference.{Call, write, read, step}
-use Rattle.sessions.specs.Session.{Session, cell, row, judged, tried, denied, run}
+use Rattle.common.specs.Calls.{write, read, step}
+use Rattle.sessions.specs.Session.{Session, tickets, cell, row, judged, tried, denied, run}
+use Rattle.sessions.specs.Lent.{lent, paper, times}
+use Rattle.sessions.specs.Counted.{countedSessions}
 
 abbrev stamp : ℕ → ℕ → Stamp
 stamp c p = record { cur = c; prev = p }
@@ -57,31 +58,20 @@ twoChoices = two (W 5 ∷ w ∷ W 7 ∷ R 1 ∷ r 1 7 ∷ R 1 ∷ r 1 5 ∷ [])
 abbrev places : List ℕ
 places = 77 ∷ 77 ∷ 77 ∷ 77 ∷ 77 ∷ []
 
--- a table of k cells and a log of k rows to lend, with leftover words
-abbrev lent : ℕ → List ℕ
-lent k = replicate k 77
-
-abbrev paper : ℕ → List ℕ
-paper k = replicate k 55
-
--- k sub-steps of processor p
-abbrev times : ℕ → ℕ → List Call
-times k p = replicate k (step p)
-
 abbrev pub table : List Session
 table =
     -- "n=1, start 7: cell 0 is 00000007001FFF00, cell 1 is 00000000FFFFFF00"
     cell (shows 7 (stamp 0 1)) 0x00000007001FFF00
     ∷ cell (shows 0 none) 0x00000000FFFFFF00
-    ∷ run 1 7 (lent 4) (paper 3) [] [] (0x00000007001FFF00 ∷ 0x00000000FFFFFF00 ∷ 77 ∷ 77 ∷ []) (0x5010000000000007 ∷ 55 ∷ 55 ∷ [])
+    ∷ run tickets 1 7 (lent 4) (paper 3) [] [] (0x00000007001FFF00 ∷ 0x00000000FFFFFF00 ∷ 77 ∷ 77 ∷ []) (0x5010000000000007 ∷ 55 ∷ 55 ∷ [])
     -- "Writes with no read, n=1: stamps (2,0), (1,2), (0,1)."
-    ∷ run 1 7 (lent 4) (paper 8) (write 9 ∷ times 2 0) (0 ∷ 1 ∷ 2 ∷ [])
+    ∷ run tickets 1 7 (lent 4) (paper 8) (write 9 ∷ times 2 0) (0 ∷ 1 ∷ 2 ∷ [])
     (0x00000009080FFF00 ∷ 0x00000000FFFFFF00 ∷ 77 ∷ 77 ∷ [])
     (0x5010000000000007 ∷ 0x1000000000000009 ∷ 0x2000000000000000 ∷ 55 ∷ 55 ∷ 55 ∷ 55 ∷ 55 ∷ [])
-    ∷ run 1 7 (lent 4) (paper 8) (write 9 ∷ times 2 0 ++ write 8 ∷ times 2 0) (0 ∷ 1 ∷ 2 ∷ 0 ∷ 1 ∷ 2 ∷ [])
+    ∷ run tickets 1 7 (lent 4) (paper 8) (write 9 ∷ times 2 0 ++ write 8 ∷ times 2 0) (0 ∷ 1 ∷ 2 ∷ 0 ∷ 1 ∷ 2 ∷ [])
     (0x00000008042FFF00 ∷ 0x00000000FFFFFF00 ∷ 77 ∷ 77 ∷ [])
     (0x5010000000000007 ∷ 0x1000000000000009 ∷ 0x2000000000000000 ∷ 0x1000000000000008 ∷ 0x2000000000000000 ∷ 55 ∷ 55 ∷ 55 ∷ [])
-    ∷ run 1 7 (lent 4) (paper 8) (write 9 ∷ times 2 0 ++ write 8 ∷ times 2 0 ++ write 7 ∷ times 2 0)
+    ∷ run tickets 1 7 (lent 4) (paper 8) (write 9 ∷ times 2 0 ++ write 8 ∷ times 2 0 ++ write 7 ∷ times 2 0)
     (0 ∷ 1 ∷ 2 ∷ 0 ∷ 1 ∷ 2 ∷ 0 ∷ 1 ∷ 2 ∷ [])
     (0x00000007001FFF00 ∷ 0x00000000FFFFFF00 ∷ 77 ∷ 77 ∷ [])
     (0x5010000000000007
@@ -98,19 +88,19 @@ table =
     -- "First two sub-steps of a fresh read, n=1: cell 1 is 00000000FFF00100; after all 5, 00000000001FFF00."
     ∷ cell (announces none (stamp 0 1)) 0x00000000FFF00100
     ∷ cell (shows 0 (stamp 0 1)) 0x00000000001FFF00
-    ∷ run 1 7 (lent 4) (paper 4) (read 1 ∷ times 2 1) (0 ∷ 1 ∷ 2 ∷ [])
+    ∷ run tickets 1 7 (lent 4) (paper 4) (read 1 ∷ times 2 1) (0 ∷ 1 ∷ 2 ∷ [])
     (0x00000007001FFF00 ∷ 0x00000000FFF00100 ∷ 77 ∷ 77 ∷ [])
     (0x5010000000000007 ∷ 0x3010000000000000 ∷ 55 ∷ 55 ∷ [])
-    ∷ run 1 7 (lent 4) (paper 4) (read 1 ∷ times 5 1) (0 ∷ 1 ∷ 2 ∷ 3 ∷ 4 ∷ 5 ∷ [])
+    ∷ run tickets 1 7 (lent 4) (paper 4) (read 1 ∷ times 5 1) (0 ∷ 1 ∷ 2 ∷ 3 ∷ 4 ∷ 5 ∷ [])
     (0x00000007001FFF00 ∷ 0x00000000001FFF00 ∷ 77 ∷ 77 ∷ [])
     (0x5010000000000007 ∷ 0x3010000000000000 ∷ 0x4010000000000007 ∷ 55 ∷ [])
     -- "n=1: one read sub-step, a whole write of 9, the rest: 9 at sub-step 9."
-    ∷ run 1 7 (lent 4) (paper 6) (read 1 ∷ step 1 ∷ write 9 ∷ times 2 0 ++ times 8 1)
+    ∷ run tickets 1 7 (lent 4) (paper 6) (read 1 ∷ step 1 ∷ write 9 ∷ times 2 0 ++ times 8 1)
     (0 ∷ 1 ∷ 0 ∷ 1 ∷ 2 ∷ 2 ∷ 3 ∷ 4 ∷ 5 ∷ 6 ∷ 7 ∷ 8 ∷ 9 ∷ [])
     (0x00000009080FFF00 ∷ 0x00000000080FFF00 ∷ 77 ∷ 77 ∷ [])
     (0x5010000000000007 ∷ 0x3010000000000000 ∷ 0x1000000000000009 ∷ 0x2000000000000000 ∷ 0x4010000000000009 ∷ 55 ∷ [])
     -- "n=2: write of 9 stopped after 3 sub-steps, reader 1 reads 9, then reader 2 reads 9."
-    ∷ run 2 7 (lent 8) (paper 7) (write 9 ∷ times 3 0 ++ read 1 ∷ times 7 1 ++ read 2 ∷ times 7 2)
+    ∷ run tickets 2 7 (lent 8) (paper 7) (write 9 ∷ times 3 0 ++ read 1 ∷ times 7 1 ++ read 2 ∷ times 7 2)
     (0 ∷ 1 ∷ 2 ∷ 3 ∷ 0 ∷ 1 ∷ 2 ∷ 3 ∷ 4 ∷ 5 ∷ 6 ∷ 7 ∷ 0 ∷ 1 ∷ 2 ∷ 3 ∷ 4 ∷ 5 ∷ 6 ∷ 7 ∷ [])
     (0x00000009080FFF00
     ∷ 0x00000007001FFF00
@@ -130,7 +120,7 @@ table =
     ∷ 55
     ∷ [])
     -- n=3, the same with a write stopped after 4: readers 1 and 3 read 9, reader 2 has announced its first look
-    ∷ run 3 7 (lent 14) (paper 9) (write 9 ∷ times 4 0 ++ read 1 ∷ times 9 1 ++ read 3 ∷ times 9 3 ++ read 2 ∷ times 3 2)
+    ∷ run tickets 3 7 (lent 14) (paper 9) (write 9 ∷ times 4 0 ++ read 1 ∷ times 9 1 ++ read 3 ∷ times 9 3 ++ read 2 ∷ times 3 2)
     (0 ∷ 1 ∷ 2 ∷ 3 ∷ 4 ∷ 0 ∷ 1 ∷ 2 ∷ 3 ∷ 4 ∷ 5 ∷ 6 ∷ 7 ∷ 8 ∷ 9 ∷ 0 ∷ 1 ∷ 2 ∷ 3 ∷ 4 ∷ 5 ∷ 6 ∷ 7 ∷ 8 ∷ 9 ∷ 0 ∷ 1 ∷ 2 ∷ 3 ∷ [])
     (0x00000009080FFF00
     ∷ 0x00000007001FFF00
@@ -158,7 +148,7 @@ table =
     ∷ 55
     ∷ [])
     -- n=2: a whole write within each attempt, so that the read gives its second first look's 8, and shows none
-    ∷ run 2 7 (lent 8) (paper 8) (read 1 ∷ step 1 ∷ write 8 ∷ times 4 0 ++ times 5 1 ++ write 9 ∷ times 4 0 ++ times 6 1)
+    ∷ run tickets 2 7 (lent 8) (paper 8) (read 1 ∷ step 1 ∷ write 8 ∷ times 4 0 ++ times 5 1 ++ write 9 ∷ times 4 0 ++ times 6 1)
     (0 ∷ 1 ∷ 0 ∷ 1 ∷ 2 ∷ 3 ∷ 4 ∷ 2 ∷ 3 ∷ 4 ∷ 5 ∷ 6 ∷ 0 ∷ 1 ∷ 2 ∷ 3 ∷ 4 ∷ 7 ∷ 8 ∷ 9 ∷ 10 ∷ 11 ∷ 12 ∷ [])
     (0x000000090C2FFF00
     ∷ 0x000000090C2FFF00
@@ -226,17 +216,18 @@ table =
     ∷ judged (two (W 5 ∷ W 6 ∷ [])) places 10 [] places
     ∷ judged (two (W 5 ∷ R 1 ∷ [])) (77 ∷ []) 11 [] (77 ∷ [])
     -- "0 and 17 readers: 1. Log of 2: 3.", and a cell short
-    ∷ denied 0 7 (lent 4) (paper 3) 1
-    ∷ denied 17 7 (lent 4) (paper 3) 1
-    ∷ denied 1 7 (lent 1) (paper 3) 2
-    ∷ denied 1 7 (lent 4) (paper 2) 3
+    ∷ denied tickets 0 7 (lent 4) (paper 3) 1
+    ∷ denied tickets 17 7 (lent 4) (paper 3) 1
+    ∷ denied tickets 1 7 (lent 1) (paper 3) 2
+    ∷ denied tickets 1 7 (lent 4) (paper 2) 3
     -- "Log of 3: one operation fits, the next begin gives 7.", also while the one is open
-    ∷ run 1 7 (lent 4) (paper 3) (read 1 ∷ write 9 ∷ times 5 1 ++ write 9 ∷ []) (0 ∷ 107 ∷ 1 ∷ 2 ∷ 3 ∷ 4 ∷ 5 ∷ 107 ∷ [])
+    ∷ run tickets 1 7 (lent 4) (paper 3) (read 1 ∷ write 9 ∷ times 5 1 ++ write 9 ∷ []) (0 ∷ 107 ∷ 1 ∷ 2 ∷ 3 ∷ 4 ∷ 5 ∷ 107 ∷ [])
     (0x00000007001FFF00 ∷ 0x00000000001FFF00 ∷ 77 ∷ 77 ∷ [])
     (0x5010000000000007 ∷ 0x3010000000000000 ∷ 0x4010000000000007 ∷ [])
     -- refusals 5, 8 and 6: no such reader or processor, a sub-step of an idle one, a begin of a busy one
-    ∷ run 1 7 (lent 4) (paper 5) (read 0 ∷ read 2 ∷ step 2 ∷ step 1 ∷ write 9 ∷ write 8 ∷ times 3 0)
+    ∷ run tickets 1 7 (lent 4) (paper 5) (read 0 ∷ read 2 ∷ step 2 ∷ step 1 ∷ write 9 ∷ write 8 ∷ times 3 0)
     (105 ∷ 105 ∷ 105 ∷ 108 ∷ 0 ∷ 106 ∷ 1 ∷ 2 ∷ 108 ∷ [])
     (0x00000009080FFF00 ∷ 0x00000000FFFFFF00 ∷ 77 ∷ 77 ∷ [])
     (0x5010000000000007 ∷ 0x1000000000000009 ∷ 0x2000000000000000 ∷ 55 ∷ 55 ∷ [])
-    ∷ []
+    -- the counted register (document 02, card 3)
+    ∷ countedSessions

@@ -1,5 +1,5 @@
-// Soak: random lists of calls for every number of readers, and a checksum of all that they leave: the answers, the table, the log and its
-// order. The argument is the number of rounds, 4 if there is none; the outside model prints the same lines.
+// Soak: random lists of calls of both registers for every number of readers, and a checksum of all that they leave: the answers, the table,
+// the log and its order. The argument is the number of rounds of each, 4 if there is none; the outside model prints the same lines.
 mod sum; // the generator and the checksum
 mod source; // the calls of a round
 mod rounds; // a round: set-up, the calls, and the judge on the used rows
@@ -11,15 +11,9 @@ use rounds::round;
 use sum::SEED;
 ghost use Prim.Native.Nat.{_≤_};
 
-// The rounds for n readers, and their line.
-fn soak(n: u32, rounds: u64)
-    requires { ⌜ n ≤ 16 ⌝ }
-{
-    let mut sum = SEED;
-    let mut k = 0;
-    while k < rounds {
-        sum = round(n, SEED ^ (((n as u64) << 32) | k), sum);
-        k += 1;
+fn print_sum(counted: bool, n: u32, sum: u64) {
+    if counted {
+        io::write_all(STDOUT_FILENO, b"counted ");
     }
     io::write_all(STDOUT_FILENO, b"n ");
     io::print_decimal(STDOUT_FILENO, n as u64);
@@ -28,10 +22,24 @@ fn soak(n: u32, rounds: u64)
     io::write_all(STDOUT_FILENO, b"\n");
 }
 
+// The rounds of one register for n readers, and their line.
+fn soak(counted: bool, n: u32, rounds: u64)
+    requires { ⌜ n ≤ 16 ⌝ }
+{
+    let mut sum = SEED;
+    let mut k = 0;
+    while k < rounds {
+        sum = round(counted, n, SEED ^ (((n as u64) << 32) | k), sum);
+        k += 1;
+    }
+    print_sum(counted, n, sum);
+}
+
 fn soak_all(rounds: u64) {
     let mut n = 1u32;
     while n <= 16 {
-        soak(n, rounds);
+        soak(false, n, rounds);
+        soak(true, n, rounds);
         n += 1;
     }
 }

@@ -6,13 +6,23 @@ use super::sum::fold_all;
 use super::sum::mix;
 use judge::verdict::Verdict;
 use judge::verdict::judge;
+use register::run::Ran;
 use register::run::run;
+use register::run::run_counted;
 ghost use mathlib.Core.Path.{_≡_};
 ghost use Prim.Native.Nat.{_<_, _≤_};
 ghost use lib.ListN.{length};
 
 // What buffers hold before anything is written to them.
 const MARK: u64 = 0xFFFF_FFFF_FFFF_FFFF;
+
+// What a set-up is given: which register, its readers and its start reading; of the counted one its fresh stamp.
+struct Given {
+    counted: bool,
+    n: u32,
+    start: u32,
+    fresh: u32,
+}
 
 fn marks() -> [u64; 4096]
     ensures { λ r. ⌜ 4096 ≡ length r ⌝ }
@@ -64,6 +74,16 @@ fn burst_of(k: u64, n: u64) -> u64
     }
 }
 
+// A fresh stamp: 0, 5, one of the last 4, or any.
+fn fresh_of(k: u64, word: u64) -> u32 {
+    match k {
+        0 => 0,
+        1 => 5,
+        2 => 4294967295 - (word % 4) as u32,
+        _ => (word % 4294967296) as u32,
+    }
+}
+
 // A verdict, folded: the refusal number or 0, the order's length, and the order.
 fn fold_verdict(sum: u64, verdict: Verdict, order: &[u64]) -> u64 {
     match verdict {
@@ -90,36 +110,49 @@ fn judge_used(sum: u64, log: &[u64], used: usize) -> u64 {
     judge_rows(sum, &log[0..count], &mut order)
 }
 
-// The calls in the words on a register with a start reading: the answers, the whole table and log, the rows used and the verdict.
+// Set-up, and the calls in the words.
+fn run_given(
+    g: Given,
+    words: &[u64],
+    table: &mut [u64],
+    log: &mut [u64],
+    answers: &mut [u64],
+) -> Ran {
+    if g.counted {
+        return run_counted(g.n, g.start, g.fresh, words, table, log, answers);
+    }
+    run(g.n, g.start, words, table, log, answers)
+}
+
+// The same, folded: the answers, the whole table and log, the rows used and the verdict.
 fn run_calls(
     sum: u64,
-    n: u32,
-    start: u32,
+    g: Given,
     words: &[u64],
     answers: &mut [u64],
     table: &mut [u64],
     log: &mut [u64],
 ) -> u64 {
-    let ran = run(n, start, words, table, log, answers);
+    let ran = run_given(g, words, table, log, answers);
     let calls = ran.calls;
     let state = calls.state;
-    let used = state.used;
+    let head = state.head;
+    let used = head.used;
     let a = fold_all(sum, answers);
     let b = fold_all(a, table);
     let c = fold_all(b, log);
     judge_used(fold(c, used as u64), log, used)
 }
 
-// The same with a log of so many rows; the table has 8 cells more than 16 readers need.
-fn run_words(sum: u64, n: u32, start: u32, rows: usize, words: &[u64], answers: &mut [u64]) -> u64
+// The same with a log of so many rows; the table has 8 cells more than 16 readers of the first register need.
+fn run_words(sum: u64, g: Given, rows: usize, words: &[u64], answers: &mut [u64]) -> u64
     requires { ⌜ rows ≤ 4096 ⌝ }
 {
     let mut table = marks();
     let mut log = marks();
     run_calls(
         sum,
-        n,
-        start,
+        g,
         words,
         answers,
         &mut table[0..280],
@@ -127,26 +160,27 @@ fn run_words(sum: u64, n: u32, start: u32, rows: usize, words: &[u64], answers: 
     )
 }
 
-// Fills the words from the generator's word x on, and makes their calls.
-fn run_filled(
-    sum: u64,
-    n: u32,
-    start: u32,
-    rows: usize,
-    burst: u64,
-    x: u64,
-    words: &mut [u64],
-) -> u64
+// Fills the words from the generator's word x on, for n readers, and makes their calls.
+fn run_filled(sum: u64, g: Given, rows: usize, n: u64, burst: u64, x: u64, words: &mut [u64]) -> u64
     requires { ⌜ (n ≤ 16) × (rows ≤ 4096) × (0 < burst) ⌝ }
 {
     let mut answers = long_marks();
     let count = fewer(words.len(), 65536);
-    fill(words, source_of(x), n as u64, burst);
-    run_words(sum, n, start, rows, words, &mut answers[0..count])
+    fill(words, source_of(x), n, burst);
+    run_words(sum, g, rows, words, &mut answers[0..count])
 }
 
-// A round for n readers.
-pub(crate) fn round(n: u32, seed: u64, sum: u64) -> u64
+// As many calls as the log's length asks for.
+fn run_round(sum: u64, g: Given, rows: usize, n: u64, burst: u64, x: u64) -> u64
+    requires { ⌜ (n ≤ 16) × (rows ≤ 4096) × (0 < burst) ⌝ }
+{
+    let mut words = long_marks();
+    let count = fewer(32 * rows, 65536);
+    run_filled(sum, g, rows, n, burst, x, &mut words[0..count])
+}
+
+// A round of one register for n readers.
+pub(crate) fn round(counted: bool, n: u32, seed: u64, sum: u64) -> u64
     requires { ⌜ n ≤ 16 ⌝ }
 {
     let x = mix(mix(seed));
@@ -155,7 +189,17 @@ pub(crate) fn round(n: u32, seed: u64, sum: u64) -> u64
     let rows = rows_of((y >> 32) % 8);
     let z = mix(y);
     let burst = burst_of((z >> 32) % 4, n as u64);
-    let mut words = long_marks();
-    let count = fewer(32 * rows, 65536);
-    run_filled(sum, n, start, rows, burst, z, &mut words[0..count])
+    let mut g = Given {
+        counted: counted,
+        n: n,
+        start: start,
+        fresh: 0,
+    };
+    if counted {
+        let a = mix(z);
+        let b = mix(a);
+        g.fresh = fresh_of((a >> 32) % 4, b >> 32);
+        return run_round(sum, g, rows, n as u64, burst, b);
+    }
+    run_round(sum, g, rows, n as u64, burst, z)
 }

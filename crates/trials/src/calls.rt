@@ -6,10 +6,10 @@ use super::same::same_state;
 use super::text::print;
 use super::text::print_answer;
 use super::text::print_with;
+use common::Answer;
+use common::State;
 use entries::kept::begin;
 use entries::kept::step;
-use protocol::Answer;
-use protocol::State;
 use register::calls::Called;
 use register::calls::begin_read;
 

@@ -1,11 +1,14 @@
-// Trials of the register and the judge: the sessions that are not proved, and every refusal, obtained from the code. A line for each
+// Trials of the registers and the judge: the sessions that are not proved, and every refusal, obtained from the code. A line for each
 // trial; the outside model writes the same lines.
 mod text; // what is printed
 mod same; // words and states compared
 mod set_ups; // set-up: questions 1 to 3
 mod calls; // begins and sub-steps, each watched
 mod scripts; // lists of calls: questions 5 to 8
-mod range; // question 4
+mod heads; // question 4 of either register: sizes and rows
+mod range; // question 4: words moved and tickets
+mod counted_calls; // the counted register: set-up, its sessions, and lists of calls
+mod counted_range; // question 4 of the counted register: words moved and stamps
 mod logs; // the judge: question 9
 mod malformed; // question 10
 mod orders; // questions 11 and 12
@@ -16,6 +19,8 @@ fn main() {
     set_ups::try_all();
     scripts::try_all();
     range::try_all();
+    counted_calls::try_all();
+    counted_range::try_all();
     logs::try_all();
     malformed::try_all();
     orders::try_all();

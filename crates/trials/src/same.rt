@@ -1,7 +1,8 @@
 // Words and states compared.
-use protocol::Reader;
-use protocol::State;
-use protocol::Writer;
+use common::Head;
+use common::Reader;
+use common::State;
+use common::Writer;
 use words::stamp::equal;
 ghost use mathlib.Core.Path.{_≡_};
 ghost use Prim.Native.Nat.{_≤_};
@@ -69,6 +70,10 @@ pub(crate) fn written(words: &[u64]) -> u64 {
     count
 }
 
+fn same_head(a: Head, b: Head) -> bool {
+    (a.counted == b.counted) & (a.n == b.n) & (a.rows == b.rows) & (a.used == b.used)
+}
+
 fn same_writer(a: Writer, b: Writer) -> bool {
     let stamp = equal(a.stamp, b.stamp);
     stamp
@@ -77,6 +82,7 @@ fn same_writer(a: Writer, b: Writer) -> bool {
         & (a.value == b.value)
         & (a.excluded == b.excluded)
         & (a.ticket == b.ticket)
+        & (a.count == b.count)
 }
 
 fn same_reader(a: Reader, b: Reader) -> bool {
@@ -106,7 +112,8 @@ fn same_readers(a: State, b: State) -> bool {
 
 // Whether two states are the same in every field.
 pub(crate) fn same_state(a: State, b: State) -> bool {
+    let head = same_head(a.head, b.head);
     let writer = same_writer(a.writer, b.writer);
     let readers = same_readers(a, b);
-    writer & readers & (a.n == b.n) & (a.rows == b.rows) & (a.used == b.used)
+    head & writer & readers
 }

@@ -4,13 +4,13 @@ use super::logs::try_log;
 use super::same::marks;
 use super::text::print;
 use super::text::print_with;
+use common::State;
 use lines::script::read_calls;
-use protocol::State;
 use register::set_up::set_up;
 ghost use Prim.Native.Nat.{_≤_};
 
 // The calls in the words up to the first that is none, from a state on.
-fn try_calls(words: &[u64], s: State, table: &mut [u64], log: &mut [u64]) -> State {
+pub(crate) fn try_calls(words: &[u64], s: State, table: &mut [u64], log: &mut [u64]) -> State {
     let mut state = s;
     let mut i = 0;
     while i < words.len() {
@@ -38,7 +38,8 @@ fn try_words(n: u32, words: &[u64; 64], table: &mut [u64], log: &mut [u64]) {
     print_with(b", rows ", log.len() as u64);
     let o = set_up(n, 7, table, log);
     let end = try_calls(words, o.state, table, log);
-    try_used(end.used, log);
+    let head = end.head;
+    try_used(head.used, log);
 }
 
 // The same with a log of so many rows, for the calls in the lines, at most 64.

@@ -4,13 +4,12 @@ use super::same::written;
 use super::text::print;
 use super::text::print_answer;
 use super::text::print_with;
+use common::Answer;
 use register::set_up::set_up;
 ghost use Prim.Native.Nat.{_≤_};
 
-// A set-up of n readers, and how many words it wrote of buffers of marks.
-fn try_lent(n: u32, table: &mut [u64], log: &mut [u64]) {
-    let o = set_up(n, 7, table, log);
-    let answer = o.answer;
+// A set-up's answer, and how many words it wrote of buffers of marks.
+pub(crate) fn print_set_up(n: u32, answer: Answer, table: &[u64], log: &[u64]) {
     print_with(b"set-up with ", n as u64);
     print_with(b" readers, ", table.len() as u64);
     print_with(b" cells, ", log.len() as u64);
@@ -21,7 +20,13 @@ fn try_lent(n: u32, table: &mut [u64], log: &mut [u64]) {
     print(b"\n");
 }
 
-// The same in a table and a log of these lengths.
+fn try_lent(n: u32, table: &mut [u64], log: &mut [u64]) {
+    let o = set_up(n, 7, table, log);
+    let answer = o.answer;
+    print_set_up(n, answer, table, log);
+}
+
+// A set-up of n readers with start reading 7, in a table and a log of these lengths.
 pub(crate) fn try_set_up(n: u32, cells: usize, rows: usize)
     requires { ⌜ (cells ≤ 4097) × (rows ≤ 4097) ⌝ }
 {

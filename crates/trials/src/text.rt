@@ -1,8 +1,8 @@
 // What is printed.
 use super::same::fewer;
+use common::Answer;
+use common::numbers::refusal_number;
 use libc::STDOUT_FILENO;
-use protocol::Answer;
-use register::run::refusal_number;
 
 pub(crate) fn print(words: &[u8]) {
     io::write_all(STDOUT_FILENO, words);

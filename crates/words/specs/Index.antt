@@ -21,3 +21,7 @@ pub record Pair (n i j : ℕ) : Type 0 where
   pub from : i ≤ n
   pub dest : j ≤ n
   pub apart : j ≢ i
+
+-- "the other readers, in rising order": the k-th reader, from 0, other than p
+unfoldable pub other : ℕ → ℕ → ℕ
+other p k = pick (ltb (k + 1) p) (k + 1) (k + 2)

@@ -9,6 +9,10 @@ packRow r = put 60 4 (r .kind) + put 52 8 (r .processor) + low 32 (r .value)
 abbrev pub unpackRow : ℕ → Row
 unpackRow w = record { kind = field 60 4 w; processor = field 52 8 w; value = low 32 w }
 
+-- the row of these fields, packed
+abbrev pub rowOf : ℕ → ℕ → ℕ → ℕ
+rowOf kind processor value = packRow (record { kind = kind; processor = processor; value = value })
+
 -- the bits that are to be zero
 abbrev pub zeroBits : ℕ → ℕ
 zeroBits w = field 32 20 w

@@ -1,17 +1,17 @@
 // A fresh writer, one that begins a write, its tickets, and question 4 of it.
 use super::tickets::smallest_out;
 use super::tickets::with_ticket;
-use protocol::Writer;
+use common::Writer;
 use words::stamp::Stamp;
 ghost use mathlib.Core.Path.{_≡_};
+ghost use Rattle.common.specs.State.{writerBegins};
+ghost use Rattle.common.specs.SetUp.{freshWriter};
 ghost use Rattle.protocol.specs.State.{excludedBy, ticketsOk, openWriteOk, writerOk};
-ghost use Rattle.protocol.specs.SetUp.{freshWriter};
 ghost use Rattle.protocol.specs.Write.{ticketOf};
-ghost use Rattle.protocol.specs.Calls.{writerBegins};
 
-// The writer of a fresh register.
-pub fn fresh_writer() -> Writer
-    ensures { λ r. ⌜ r ≡ freshWriter ⌝ }
+// The writer of a fresh register of either kind, with its fresh stamp.
+pub fn fresh_writer(fresh: u32) -> Writer
+    ensures { λ r. ⌜ r ≡ freshWriter fresh ⌝ }
 {
     let stamp = Stamp { cur: 0, prev: 1 };
     Writer {
@@ -21,10 +21,11 @@ pub fn fresh_writer() -> Writer
         excluded: 0,
         ticket: 63,
         stamp: stamp,
+        count: fresh,
     }
 }
 
-// A write of a value begins.
+// A write of a value begins, in a register of either kind.
 pub fn open_writer(w: Writer, value: u32) -> Writer
     ensures { λ r. ⌜ r ≡ writerBegins w value ⌝ }
 {

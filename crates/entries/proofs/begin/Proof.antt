@@ -42,8 +42,8 @@ use denote.Triple.Statement.{Contract, Triple}
 use denote.Triple.Table.{entered, cited}
 use denote.Triple.Walked.{says, Stays, stay-ref, stay-none, walkOf, AllGo, goes-none, goes-ref, gave-slice, goes-gave-slice, Walks, ends-at, walked, walk-meets}
 use Rattle.register.proofs.CallLaws.{with-reply}
-use Rattle.protocol.specs.declared.State.{State}
-use Rattle.protocol.proofs.State as T
+use Rattle.common.specs.declared.State.{State}
+use Rattle.common.proofs.State as T
 use Rattle.register.specs.Contract.{outcome}
 use Rattle.register.specs.declared.calls.Called.{Called}
 use Rattle.register.proofs.calls.Called as D

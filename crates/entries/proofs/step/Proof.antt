@@ -42,10 +42,9 @@ use denote.Triple.Statement.{Contract, Triple}
 use denote.Triple.Table.{entered, cited}
 use denote.Triple.Walked.{says, Stays, stay-ref, stay-none, walkOf, AllGo, goes-none, goes-ref, gave-slice, goes-gave-slice, Walks, ends-at, walked, walk-meets}
 use Rattle.register.proofs.CallLaws.{with-reply}
-use Rattle.protocol.specs.Answers.{reply}
-use Rattle.protocol.specs.Calls.{stepOf}
-use Rattle.protocol.specs.declared.State.{State}
-use Rattle.protocol.proofs.State as T
+use Rattle.common.specs.Answers.{reply}
+use Rattle.common.specs.declared.State.{State}
+use Rattle.common.proofs.State as T
 use Rattle.register.specs.Contract.{outcome}
 use Rattle.register.specs.declared.calls.Called.{Called}
 use Rattle.register.proofs.calls.Called as D
@@ -54,6 +53,7 @@ use Rattle.register.proofs.calls.step as core
 use Rattle.register.proofs.calls.step.Symbol as core-def
 use Rattle.register.proofs.calls.step.Symbol.{name as #register·calls·step}
 use Rattle.register.proofs.calls.step.Met as core-thm
+use Rattle.entries.specs.Contract.{stepOf}
 use Rattle.entries.proofs.Lent.{mach, said, slice, Tokens, IsAnswer, answer-in, state-in, state-typed, answer-typed, called-typed, takes, puts, ended, number, asks-value, ends-lent}
 use Rattle.entries.proofs.step.Key.{name as #entries·step}
 use Rattle.entries.proofs.step as step

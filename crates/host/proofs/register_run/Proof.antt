@@ -1,7 +1,7 @@
 use mathlib.Core.Path.{ap}
 use native.Mathlib.Omega.{arith}
 use borrow.Author.Needs.{needs}
-use Rattle.protocol.specs.Answers.{numberOf}
+use Rattle.common.specs.Answers.{numberOf}
 use Rattle.register.specs.Run.{MadeCalls}
 use Rattle.host.specs.Host.{resultOf}
 use Rattle.host.proofs.register_run.Statement.{statement}
@@ -12,7 +12,7 @@ unfolding resultOf
 returns c =
     let ran = c .before .before .before .before .before .before .before .run .ensures in
     let same = ran .1 in
-    (omega (arith, c .number .ensures .0, ap numberOf (ran .0), ap (λ (m : MadeCalls). m .made) same), (ap (λ (m : MadeCalls). m .table) same, (ap (λ (m : MadeCalls). m .log) same, ap (λ (m : MadeCalls). m .places) same)))
+    (omega (arith, c .result-word .ensures, ap numberOf (ran .0), ap (λ (m : MadeCalls). m .made) same), (ap (λ (m : MadeCalls). m .table) same, (ap (λ (m : MadeCalls). m .log) same, ap (λ (m : MadeCalls). m .places) same)))
 
 pub register-run-spec : {M : Type 1} → statement M
 register-run-spec =
@@ -20,8 +20,6 @@ register-run-spec =
     (tie.spec
     (λ c κs. search needs)
     (λ c κs. search needs)
-    (λ c. search needs)
-    (λ c. search needs)
     (λ c. search needs)
     (λ c. search needs)
     (λ c. search needs)

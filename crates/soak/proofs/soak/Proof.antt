@@ -4,10 +4,10 @@ use Rattle.soak.proofs.soak.Statement.{statement}
 use Rattle.soak.proofs.soak.Tie as tie
 
 abbrev Inv-loop : tie.InvT-loop
-Inv-loop n rounds sum₀ k₀ t5 t6 t7 sum k = Unit {0}
+Inv-loop counted n rounds sum₀ k₀ sum k = Unit {0}
 
 abbrev μ-loop : tie.MeasureT-loop
-μ-loop n rounds sum₀ k₀ t5 t6 t7 sum k = rounds - k
+μ-loop counted n rounds sum₀ k₀ sum k = rounds - k
 
 pub soak-spec : {M : Type 1} → statement M
 soak-spec =
@@ -19,13 +19,6 @@ soak-spec =
     (λ c κs. search needs)
     (λ c. search needs)
     (λ c. search needs)
-    (λ c. search needs)
-    (λ c. search needs)
-    (λ c κs. search needs)
-    (λ c κs. search needs)
-    (λ c. search needs)
-    (λ c κs. search needs)
-    (λ c κs. search needs)
     (λ c. search needs)
     (λ c κs. search needs)
     (λ c. search needs))

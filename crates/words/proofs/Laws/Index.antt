@@ -5,7 +5,7 @@ use mathlib.Core.Logic.{_≢_}
 use native.Mathlib.Nat.{mul-le-mul-left, mul-comm, mul-add, div-add-mod, div-lt-iff-lt-mul, mod-lt}
 use native.Mathlib.Decide.{decLt}
 use native.Mathlib.Omega.{arith}
-use Rattle.words.specs.Index.{rowStart, inRow, index, Pair}
+use Rattle.words.specs.Index.{rowStart, inRow, index, Pair, other}
 use lib.Dec.{ltb}
 use Rattle.words.specs.Choice.{pick}
 use Rattle.words.proofs.Laws.Choice.{lt-ind}
@@ -98,3 +98,23 @@ pub row-fits : (n i : ℕ) → n < 2 ^ 32 → i < 2 ^ 32 → n * i ≤ (2 ^ 32 -
 row-fits n i hn hi =
     let h : i ≤ 2 ^ 32 - 1 = omega arith in
     omega (arith, mul-le-mul-left n h)
+
+-- "the other readers, in rising order": each of them is a reader other than p, they rise, and every other reader is one of them.
+pub other-valid : (n p k : ℕ) → 1 ≤ p → p ≤ n → k + 1 < n → (1 ≤ other p k) × (other p k ≤ n) × (other p k ≢ p)
+unfolding other
+other-valid n p k h1 h2 h =
+    lt-ind (λ q. (1 ≤ q) × (q ≤ n) × (q ≢ p)) (k + 1) p _ _ (λ g. omega arith) (λ g. omega arith)
+
+pub other-rises : (p j k : ℕ) → j < k → other p j < other p k
+unfolding other
+other-rises p j k h =
+    lt-ind (λ a. a < other p k) (j + 1) p _ _
+    (λ g. lt-ind (λ b. j + 1 < b) (k + 1) p _ _ (λ f. omega arith) (λ f. omega arith))
+    (λ g. lt-ind (λ b. j + 2 < b) (k + 1) p _ _ (λ f. omega arith) (λ f. omega arith))
+
+pub other-onto : (n p q : ℕ) → 1 ≤ p → p ≤ n → 1 ≤ q → q ≤ n → q ≢ p → (k : ℕ) × (k + 1 < n) × (other p k ≡ q)
+unfolding other
+other-onto n p q p1 pn q1 qn ne = elim (decLt q p) [
+  | yes h ↦ (q - 1, omega arith, lt-ind (λ a. a ≡ q) (q - 1 + 1) p _ _ (λ g. omega arith) (λ g. omega arith))
+  | no h ↦ (q - 2, omega arith, lt-ind (λ a. a ≡ q) (q - 2 + 1) p _ _ (λ g. omega arith) (λ g. omega arith))
+]

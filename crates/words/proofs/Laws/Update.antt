@@ -1,8 +1,9 @@
 -- A function with one value replaced.
-use Prim.Native.Nat.{ℕ}
+use Prim.Native.Nat.{ℕ, suc}
 use mathlib.Core.Path.{_≡_, refl, sym, subst}
 use mathlib.Core.Logic.{_≢_}
 use native.Mathlib.Decide.{ℕ-discrete}
+use native.Mathlib.Omega.{arith}
 use Rattle.words.specs.Update.{upd}
 
 -- what holds of the new value at its place, and of the old ones at all others, holds everywhere
@@ -20,3 +21,11 @@ upd-same f i v = upd-elim (λ j y. j ≡ i → y ≡ v) f i v (λ _. refl) (λ j
 
 pub upd-other : {A : Type 0} (f : ℕ → A) (i : ℕ) (v : A) (j : ℕ) → j ≢ i → upd f i v j ≡ f j
 upd-other f i v j = upd-elim (λ k y. k ≢ i → y ≡ f k) f i v (λ h. absurd (h refl)) (λ k h _. refl) j
+
+-- behind a replaced first value
+pub upd-first : {A : Type 0} (f : ℕ → A) (v : A) (j : ℕ) → upd f 0 v (suc j) ≡ f (suc j)
+upd-first f v j = upd-other f 0 v (suc j) (omega arith)
+
+-- a value replaced by itself
+pub upd-own : {A : Type 0} (f : ℕ → A) (i j : ℕ) → upd f i (f i) j ≡ f j
+upd-own f i = upd-elim (λ j y. y ≡ f j) f i (f i) refl (λ j _. refl)

@@ -43,13 +43,13 @@ use denote.Triple.Statement.{Contract, Triple}
 use denote.Triple.Table.{entered, cited}
 use denote.Triple.Walked.{says, Stays, stay-none, walkOf, AllGo, goes-none, gave-slice, goes-gave-slice, Walks, ends-at, walked, walk-meets}
 use Rattle.register.proofs.CallLaws.{with-reply}
-use Rattle.protocol.specs.Answers.{reply}
-use Rattle.protocol.specs.declared.Answer.{Answer}
-use Rattle.protocol.specs.declared.State.{State}
-use Rattle.protocol.proofs.Answer as N
-use Rattle.protocol.proofs.Answer.Laws as N′
-use Rattle.protocol.proofs.State as T
-use Rattle.protocol.proofs.State.Laws as T′
+use Rattle.common.specs.Answers.{reply}
+use Rattle.common.specs.declared.Answer.{Answer}
+use Rattle.common.specs.declared.State.{State}
+use Rattle.common.proofs.Answer as N
+use Rattle.common.proofs.Answer.Laws as N′
+use Rattle.common.proofs.State as T
+use Rattle.common.proofs.State.Laws as T′
 use Rattle.register.specs.declared.calls.Called.{Called}
 use Rattle.entries.specs.Contract.{beginOf, left}
 use Rattle.entries.proofs.Lent.{mach, told, slice, Tokens, IsState, IsAnswer, answer-is, called-is, state-typed, answer-typed, called-typed, takes, puts, ended, number, asks-lent, ends-value}

@@ -1,38 +1,55 @@
-use Rattle.register.proofs.CallLaws.{table-in, read-in, read-room, read-goes, read-ends}
+use Rattle.register.proofs.KindLaws.{read-low}
+use Rattle.register.proofs.CallLaws.{table-in, read-row, read-goes, read-ends}
+use Prim.Native.Nat.{_-_}
 use denote.Ref.{now}
 use native.Mathlib.Omega.{arith}
+use Rattle.common.specs.State.{readerAt}
 use borrow.Author.Needs.{needs}
 use Rattle.register.proofs.calls.step_reader.Statement.{statement}
 use Rattle.register.proofs.calls.step_reader.Tie as tie
 
+element-copy-out-r : tie.Need-element-copy-out-r
+element-copy-out-r c = omega (arith, c .before .before .before .pre .1, c .before .before .before .pre .2, c .before .before .before .pre .0 .head-ok .n-high)
+
 read-step-requires : tie.Need-read-step-requires
 read-step-requires c κs =
-    let a = c .before .before .before .before .args in
-    let p = c .before .before .before .before .pre in
-    (table-in (a .t1) _ _ (p .0), read-in (a .t1) _ _ (p .0) (a .p) (p .1) (p .2) (p .3))
+    let a = c .before .before .before .before .before .args in
+    let p = c .before .before .before .before .before .pre in
+    (table-in _ (a .t1) _ _ (p .0), p .1, p .2, p .0 .readers-ok (a .p - 1) (omega (arith, p .1, p .2)), p .3)
 
-add-t19 : tie.Need-add-t19
-add-t19 c =
-    let a = c .before .before .before .before .before .before .before .before .args in
-    let p = c .before .before .before .before .before .before .before .before .pre in
-    omega (arith, read-in (a .t1) _ _ (p .0) (a .p) (p .1) (p .2) (p .3) .moved-low, p .0 .n-high)
+add-row-of : tie.Need-add-row-of
+add-row-of c =
+    let a = c .before .before .before .before .before .before .before .before .before .args in
+    let p = c .before .before .before .before .before .before .before .before .before .pre in
+    omega (arith, read-low (a .t1 .head .n) (a .p) (readerAt (a .t1) (a .p - 1)) (p .1) (p .2) (p .3) (p .0 .head-ok .n-high) (a .t1 .head .counted) (p .0 .readers-ok (a .p - 1) (omega (arith, p .1, p .2))))
+
+element-set-from-next : tie.Need-element-set-from-next
+element-set-from-next c = omega (arith, c .before .before .before .before .before .before .before .before .before .pre .1, c .before .before .before .before .before .before .before .before .before .pre .2, c .before .before .before .before .before .before .before .before .before .pre .0 .head-ok .n-high)
 
 returns : tie.Need-returns
 returns c =
-    let a = c .before .before .before .before .before .before .before .before .before .args in
-    read-goes (a .t1) (now (a .table)) (now (a .log)) (a .p) (c .before .before .before .before .read-step .result) _ (c .before .before .before .before .read-step .ensures) (c .if1 .taken)
+    let a = c .before .before .before .before .before .before .before .before .before .before .args in
+    read-goes _ (a .t1) (now (a .table)) (now (a .log)) (a .p) (c .before .before .before .before .read-step .result) _ (c .before .before .before .before .read-step .ensures) (c .if1 .taken)
+
+cast-row-of : tie.Need-cast-row-of
+cast-row-of c = omega (arith, c .before .before .before .before .before .before .before .before .before .before .pre .2, c .before .before .before .before .before .before .before .before .before .before .pre .0 .head-ok .n-high)
+
+mul-log : tie.Need-mul-log
+mul-log c = omega (arith, c .before .before .before .before .before .before .before .before .before .before .before .before .pre .0 .head-ok .room, c .before .before .before .before .before .before .before .before .before .before .before .before .pre .0 .head-ok .rows-high)
 
 slice-write-log : tie.Need-slice-write-log
 slice-write-log c =
-    let a = c .before .before .before .before .before .before .before .before .before .before .before .args in
-    let p = c .before .before .before .before .before .before .before .before .before .before .before .pre in
-    read-room (a .t1) _ _ (p .0) (a .p) (p .1) (p .2) (p .3)
+    let p = c .before .before .before .before .before .before .before .before .before .before .before .before .pre in
+    read-row _ (c .before .before .before .before .before .before .before .before .before .before .before .before .args .t1) _ _ (p .0) (c .before .before .before .before .before .before .before .before .before .before .before .before .args .p) (p .1) (p .2) (p .3)
+
+add-more : tie.Need-add-more
+add-more c = omega (arith, c .before .before .before .before .before .before .before .before .before .before .before .before .pre .0 .head-ok .room, c .before .before .before .before .before .before .before .before .before .before .before .before .pre .0 .head-ok .rows-high)
 
 returns-2 : tie.Need-returns-2
 returns-2 c =
-    let a = c .before .before .before .before .before .before .before .before .before .before .before .args in
-    rw (c .row-of .ensures, c .before .value-in .ensures)
-    (read-ends (a .t1) (now (a .table)) (now (a .log)) (a .p) (c .before .before .before .before .before .before .read-step .result) _ (c .before .before .before .before .before .before .read-step .ensures) (c .before .before .if1 .left))
+    let a = c .before .before .before .before .before .before .before .before .before .before .before .before .before .args in
+    rw (c .before .row-of .ensures, c .before .before .value-in .ensures)
+    (read-ends _ (a .t1) (now (a .table)) (now (a .log)) (a .p) (c .before .before .before .before .before .before .before .read-step .result) _ (c .before .before .before .before .before .before .before .read-step .ensures) (c .before .before .before .if1 .left))
 
 pub step-reader-spec : {M : Type 1} → statement M
 step-reader-spec =
@@ -40,18 +57,19 @@ step-reader-spec =
     (tie.spec
     (λ c. search needs)
     (λ c. search needs)
-    (λ c. search needs)
+    element-copy-out-r
     read-step-requires
-    add-t19
+    add-row-of
     (λ c. search needs)
-    (λ c. search needs)
+    element-set-from-next
     (λ c. search needs)
     returns
+    cast-row-of
     (λ c κs. search needs)
     (λ c κs. search needs)
-    (λ c. search needs)
+    mul-log
     slice-write-log
-    (λ c. search needs)
+    add-more
     (λ c. search needs)
     (λ c. search needs)
     returns-2)

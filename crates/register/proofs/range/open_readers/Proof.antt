@@ -1,6 +1,6 @@
-use Rattle.protocol.proofs.Counting.{count-more, count-none, one-low}
-use Rattle.protocol.specs.State.{readerAt}
-use Rattle.protocol.specs.Counting.{count}
+use Rattle.words.proofs.Laws.Counting.{count-more, count-none, one-low}
+use Rattle.common.specs.State.{readerAt}
+use Rattle.words.specs.Counting.{count}
 use borrow.Author.Needs.{needs}
 use mathlib.Core.Bool.{Bool}
 use Prim.Native.Nat.{ℕ, _-_, _≤_}
@@ -10,7 +10,7 @@ use Rattle.register.proofs.range.open_readers.Statement.{statement}
 use Rattle.register.proofs.range.open_readers.Tie as tie
 
 abbrev Inv-loop : tie.InvT-loop
-Inv-loop s n m₀ i₀ m i = (n ≡ s .n) × (i ≤ n) × (n ≤ 16) × (m ≡ count i (λ (j : ℕ). readerAt s j .active)) × (m ≤ i)
+Inv-loop s n m₀ i₀ m i = (n ≡ s .head .n) × (i ≤ n) × (n ≤ 16) × (m ≡ count i (λ (j : ℕ). readerAt s j .active)) × (m ≤ i)
 
 abbrev μ-loop : tie.MeasureT-loop
 μ-loop s n m₀ i₀ m i = n - i
@@ -46,7 +46,7 @@ loop-again c =
 returns : tie.Need-returns Inv-loop μ-loop
 returns c =
     let s = c .before .before .args .t1 in
-    let e : c .before .loop .i ≡ s .n = omega arith in
+    let e : c .before .loop .i ≡ s .head .n = omega arith in
     c .before .loop .inv .3 ∙ ap (λ (k : ℕ). count k (λ (j : ℕ). readerAt s j .active)) e
 
 pub open-readers-spec : {M : Type 1} → statement M

@@ -1,6 +1,7 @@
-use Rattle.protocol.proofs.Counting.{all-more, all-none}
-use Rattle.protocol.specs.State.{readerAt, readerOk}
-use Rattle.protocol.specs.Counting.{all}
+use Rattle.words.proofs.Laws.Counting.{all-more, all-none}
+use Rattle.common.specs.State.{readerAt}
+use Rattle.register.specs.Rules.{rulesOf}
+use Rattle.words.specs.Counting.{all}
 use Prim.Native.Nat.{ℕ, _-_, _≤_}
 use mathlib.Core.Path.{_≡_, refl, sym, ap, _∙_}
 use native.Mathlib.Omega.{arith}
@@ -8,13 +9,13 @@ use Rattle.register.proofs.range.readers_ok.Statement.{statement}
 use Rattle.register.proofs.range.readers_ok.Tie as tie
 
 abbrev Inv-loop : tie.InvT-loop
-Inv-loop s n ok₀ i₀ ok i = (n ≡ s .n) × (i ≤ n) × (n ≤ 16) × (ok ≡ all i (λ (j : ℕ). readerOk (s .n) (readerAt s j)))
+Inv-loop s counted n ok₀ i₀ ok i = (counted ≡ s .head .counted) × (n ≡ s .head .n) × (i ≤ n) × (n ≤ 16) × (ok ≡ all i (λ (j : ℕ). rulesOf (s .head .counted) .readerOk (s .head .n) (readerAt s j)))
 
 abbrev μ-loop : tie.MeasureT-loop
-μ-loop s n ok₀ i₀ ok i = n - i
+μ-loop s counted n ok₀ i₀ ok i = n - i
 
 loop-holds : tie.Need-loop-holds Inv-loop μ-loop
-loop-holds c = (refl, omega arith, omega arith, sym (all-none _))
+loop-holds c = (refl, refl, omega arith, omega arith, sym (all-none _))
 
 cast-loop : tie.Need-cast-loop Inv-loop μ-loop
 cast-loop c = omega arith
@@ -38,13 +39,13 @@ loop-again : tie.Need-loop-again Inv-loop μ-loop
 loop-again c =
     let i = (c .before .before .before .loop .i) in
     let s = (c .before .before .before .before .args .t1) in
-    (refl, omega arith, omega arith, rw (c .before .before .before .loop .inv .3, c .reader-ok .ensures) (sym (all-more i (λ (j : ℕ). readerOk (s .n) (readerAt s j)))))
+    (refl, refl, omega arith, omega arith, rw (c .before .before .before .loop .inv .4, c .reader-ok .ensures) (sym (all-more i (λ (j : ℕ). rulesOf (s .head .counted) .readerOk (s .head .n) (readerAt s j)))))
 
 returns : tie.Need-returns Inv-loop μ-loop
 returns c =
     let s = c .before .before .args .t1 in
-    let e : c .before .loop .i ≡ s .n = omega arith in
-    c .before .loop .inv .3 ∙ ap (λ (k : ℕ). all k (λ (j : ℕ). readerOk (s .n) (readerAt s j))) e
+    let e : c .before .loop .i ≡ s .head .n = omega arith in
+    c .before .loop .inv .4 ∙ ap (λ (k : ℕ). all k (λ (j : ℕ). rulesOf (s .head .counted) .readerOk (s .head .n) (readerAt s j))) e
 
 pub readers-ok-spec : {M : Type 1} → statement M
 readers-ok-spec =

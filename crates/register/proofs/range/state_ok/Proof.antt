@@ -1,44 +1,29 @@
-use Rattle.register.proofs.Laws.{sizes-are}
-use Rattle.protocol.specs.State.{stateOk}
-use mathlib.Core.Path.{sym, _∙_}
+use Rattle.common.specs.Rules.{stateOk}
+use Rattle.register.proofs.CallLaws.{many-readers}
 use native.Mathlib.Omega.{arith}
 use borrow.Author.Needs.{needs}
 use Rattle.register.proofs.range.state_ok.Statement.{statement}
 use Rattle.register.proofs.range.state_ok.Tie as tie
 
-open-in-requires : tie.Need-open-in-requires
-open-in-requires c κs = sizes-are _ _ _ _ _ (sym (c .before .sizes-ok .ensures) ∙ c .if1 .taken) .n-high
-
 cast-writer-ok : tie.Need-cast-writer-ok
-cast-writer-ok c = omega (arith, sizes-are _ _ _ _ _ (sym (c .before .before .before .sizes-ok .ensures) ∙ c .before .before .if1 .taken) .n-high)
-
-readers-ok-requires : tie.Need-readers-ok-requires
-readers-ok-requires c κs = sizes-are _ _ _ _ _ (sym (c .before .before .before .before .sizes-ok .ensures) ∙ c .before .before .before .if1 .taken) .n-high
-
-add-result : tie.Need-add-result
-add-result c = omega (arith, sizes-are _ _ _ _ _ (sym (c .before .before .before .before .before .before .sizes-ok .ensures) ∙ c .before .before .before .before .before .if1 .taken), c .before .before .before .before .open-in .ensures)
+cast-writer-ok c = omega (arith, c .before .before .before .before .if1 .taken)
 
 returns : tie.Need-returns
 unfolding stateOk
-returns c =
-    let z = sym (c .before .before .before .before .before .before .before .sizes-ok .ensures) ∙ c .before .before .before .before .before .before .if1 .taken in
-    rw (z, c .before .before .before .before .before .open-in .ensures .0, c .before .before .before .writer-ok .ensures, c .before .before .readers-ok .ensures)
+returns c = rw (c .before .before .before .head-ok .ensures, c .before .before .before .before .before .cells-of .ensures, c .before .before .before .before .open-in .ensures, c .before .writer-ok .ensures, c .readers-ok .ensures)
 
 returns-2 : tie.Need-returns-2
-unfolding stateOk
-returns-2 c =
-    let z = sym (c .before .sizes-ok .ensures) ∙ c .if1 .left in
-    rw z
+returns-2 c = many-readers _ (c .before .before .before .args .s) _ _ (c .if1 .left)
 
 pub state-ok-spec : {M : Type 1} → statement M
 state-ok-spec =
     tie.close
     (tie.spec
     (λ c κs. search needs)
-    open-in-requires
+    (λ c κs. search needs)
+    (λ c κs. search needs)
     cast-writer-ok
     (λ c κs. search needs)
-    readers-ok-requires
-    add-result
+    (λ c κs. search needs)
     returns
     returns-2)

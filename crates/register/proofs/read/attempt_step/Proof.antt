@@ -1,5 +1,5 @@
 use Rattle.register.proofs.Laws.{try-first, try-announce, try-again, try-other, try-third}
-use Rattle.protocol.proofs.Table.{other-valid}
+use Rattle.words.proofs.Laws.Index.{other-valid}
 use Prim.Native.Nat.{_-_}
 use denote.Ref.{now}
 use mathlib.Core.Path.{sym}

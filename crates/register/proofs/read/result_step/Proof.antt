@@ -1,5 +1,5 @@
 use Rattle.register.proofs.Laws.{put-other, put-last}
-use Rattle.protocol.proofs.Table.{other-valid}
+use Rattle.words.proofs.Laws.Index.{other-valid}
 use denote.Ref.{now}
 use borrow.Author.Needs.{needs}
 use Rattle.register.proofs.read.result_step.Statement.{statement}

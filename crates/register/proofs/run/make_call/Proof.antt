@@ -1,6 +1,6 @@
+use Rattle.register.proofs.RunLaws.{calls-write, calls-read, calls-step}
 use mathlib.Core.Path.{_∙_}
 use denote.Ref.{now}
-use Rattle.register.proofs.RunLaws.{calls-write, calls-read, calls-step}
 use borrow.Author.Needs.{needs}
 use Rattle.register.proofs.run.make_call.Statement.{statement}
 use Rattle.register.proofs.run.make_call.Tie as tie
@@ -8,17 +8,17 @@ use Rattle.register.proofs.run.make_call.Tie as tie
 returns : tie.Need-returns
 returns c =
     let a = c .before .before .before .before .before .before .before .before .before .before .args in
-    c .before .before .before .before .begin-write .ensures .0 ∙ calls-write (a .s) (now (a .table)) (now (a .log)) (a .word) (c .before .before .before .before .before .before .before .if1 .taken)
+    c .before .before .before .before .begin-write .ensures .0 ∙ calls-write _ (a .s) (now (a .table)) (now (a .log)) (a .word) (c .before .before .before .before .before .before .before .if1 .taken)
 
 returns-2 : tie.Need-returns-2
 returns-2 c =
     let a = c .before .before .before .before .before .before .before .before .before .before .before .args in
-    c .before .before .before .before .begin-read .ensures .0 ∙ calls-read (a .s) (now (a .table)) (now (a .log)) (a .word) (c .before .before .before .before .before .before .before .before .if1 .left) (c .before .before .before .before .before .before .before .if2 .taken)
+    c .before .before .before .before .begin-read .ensures .0 ∙ calls-read _ (a .s) (now (a .table)) (now (a .log)) (a .word) (c .before .before .before .before .before .before .before .before .if1 .left) (c .before .before .before .before .before .before .before .if2 .taken)
 
 returns-3 : tie.Need-returns-3
 returns-3 c =
     let a = c .before .before .before .before .before .before .before .before .before .before .before .args in
-    c .before .before .before .before .step .ensures .0 ∙ calls-step (a .s) (now (a .table)) (now (a .log)) (a .word) (c .before .before .before .before .before .before .before .before .if1 .left) (c .before .before .before .before .before .before .before .if2 .left)
+    c .before .before .before .before .step .ensures .0 ∙ calls-step _ (a .s) (now (a .table)) (now (a .log)) (a .word) (c .before .before .before .before .before .before .before .before .if1 .left) (c .before .before .before .before .before .before .before .if2 .left)
 
 pub make-call-spec : {M : Type 1} → statement M
 make-call-spec =

@@ -1,30 +1,21 @@
-use Prim.Native.Nat.{ℕ}
-use mathlib.Core.List.{List}
+use Prim.Native.Nat.{ℕ, _-_, _≤_}
+use mathlib.Core.Path.{_≡_, refl, ap, _∙_}
+use mathlib.Core.List.{List, _++_}
+use lib.ListN.{take, drop}
 use lib.Seq.{take-all}
-use native.Mathlib.Nat.{mul-le-mul-left}
-use Rattle.register.proofs.Laws.{fill-next, filled-length, fresh-at, fresh-length}
+use denote.Ref.{now}
+use native.Mathlib.Omega.{arith}
+use Rattle.common.proofs.Buffers.{fill-next, filled-length, two-at, two-length}
 use Rattle.register.specs.Contract.{freshWords}
 use borrow.Author.Needs.{needs}
-use lib.ListN.{take, drop}
-use mathlib.Core.List.{_++_}
-use Prim.Native.Nat.{_+_, _*_, _-_, _≤_}
-use denote.Ref.{now}
-use mathlib.Core.Path.{_≡_, refl, ap, _∙_}
-use native.Mathlib.Omega.{arith}
 use Rattle.register.proofs.set_up.fill.Statement.{statement}
 use Rattle.register.proofs.set_up.fill.Tie as tie
 
 abbrev Inv-loop : tie.InvT-loop
-Inv-loop table₀ n first other m cells i₀ table i = (i ≤ n * n + n) × (table ≡ take i (freshWords n first other) ++ drop i table₀)
+Inv-loop table₀ n cells own other i₀ table i = (i ≤ cells) × (table ≡ take i (freshWords n cells own other) ++ drop i table₀)
 
 abbrev μ-loop : tie.MeasureT-loop
-μ-loop table₀ n first other m cells i₀ table i = n * n + n - i
-
-mul-cells : tie.Need-mul-cells Inv-loop μ-loop
-mul-cells c = omega (arith, mul-le-mul-left (c .before .args .n) (c .before .pre .0))
-
-add-cells : tie.Need-add-cells Inv-loop μ-loop
-add-cells c = omega (arith, mul-le-mul-left (c .before .args .n) (c .before .pre .0))
+μ-loop table₀ n cells own other i₀ table i = cells - i
 
 loop-holds : tie.Need-loop-holds Inv-loop μ-loop
 loop-holds c = (omega arith, refl)
@@ -35,11 +26,10 @@ mul-table c = omega arith
 slice-write-table : tie.Need-slice-write-table Inv-loop μ-loop
 slice-write-table c =
     let a = c .before .before .before .before .args in
-    let p = c .before .before .before .before .pre in
     let l = c .before .before .loop in
-    let f = freshWords (a .n) (a .first) (a .other) in
-    let z = fresh-length (a .n) (a .first) (a .other) in
-    rw (l .inv .1, filled-length f (now (a .table)) (l .i) (omega (arith, z)) (omega (arith, z))) (omega arith)
+    let f = freshWords (a .n) (a .cells) (a .own) (a .other) in
+    let z = two-length (a .n) (a .cells - a .n) (a .own) (a .other) in
+    rw (l .inv .1, filled-length f (now (a .table)) (l .i) (omega (arith, z, c .before .before .before .before .pre)) (omega (arith, z, c .before .before .before .before .pre))) (omega (arith, c .before .before .before .before .pre))
 
 add-i : tie.Need-add-i Inv-loop μ-loop
 add-i c = omega arith
@@ -50,32 +40,29 @@ loop-less c = omega arith
 loop-again : tie.Need-loop-again Inv-loop μ-loop
 loop-again c =
     let a = c .before .before .before .before .args in
-    let p = c .before .before .before .before .pre in
     let l = c .before .before .loop in
-    let f = freshWords (a .n) (a .first) (a .other) in
-    let z = fresh-length (a .n) (a .first) (a .other) in (
+    let f = freshWords (a .n) (a .cells) (a .own) (a .other) in
+    let z = two-length (a .n) (a .cells - a .n) (a .own) (a .other) in (
       omega arith,
-      rw (l .inv .1) (fill-next f (now (a .table)) (l .i) _ (omega (arith, z)) (omega (arith, z)) (c .fresh-word .ensures ∙ fresh-at (a .n) (l .i) (a .first) (a .other) (omega arith))),
+      rw (l .inv .1) (fill-next f (now (a .table)) (l .i) _ (omega (arith, z, c .before .before .before .before .pre)) (omega (arith, z, c .before .before .before .before .pre)) (c .fresh-word .ensures ∙ two-at (a .n) (a .cells - a .n) (l .i) (a .own) (a .other) (omega (arith, c .before .before .before .before .pre)))),
     )
 
 same-length : tie.Need-same-length Inv-loop μ-loop
 same-length c =
     let a = c .before .before .before .args in
-    let p = c .before .before .before .pre in
     let l = c .before .loop in
-    let f = freshWords (a .n) (a .first) (a .other) in
-    let z = fresh-length (a .n) (a .first) (a .other) in
-    rw (l .inv .1) (filled-length f (now (a .table)) (l .i) (omega (arith, z)) (omega (arith, z)))
+    let f = freshWords (a .n) (a .cells) (a .own) (a .other) in
+    let z = two-length (a .n) (a .cells - a .n) (a .own) (a .other) in
+    rw (l .inv .1) (filled-length f (now (a .table)) (l .i) (omega (arith, z, c .before .before .before .pre)) (omega (arith, z, c .before .before .before .pre)))
 
 returns : tie.Need-returns Inv-loop μ-loop
 returns c =
     let a = c .before .before .before .args in
-    let p = c .before .before .before .pre in
     let l = c .before .loop in
-    let f = freshWords (a .n) (a .first) (a .other) in
-    let z = fresh-length (a .n) (a .first) (a .other) in
-    let e : l .i ≡ a .n * a .n + a .n = omega arith in
-    l .inv .1 ∙ rw e (ap (λ (x : List ℕ). x ++ drop (a .n * a .n + a .n) (now (a .table))) (take-all (a .n * a .n + a .n) f (omega (arith, z))))
+    let f = freshWords (a .n) (a .cells) (a .own) (a .other) in
+    let z = two-length (a .n) (a .cells - a .n) (a .own) (a .other) in
+    let e : l .i ≡ a .cells = omega arith in
+    l .inv .1 ∙ rw e (ap (λ (x : List ℕ). x ++ drop (a .cells) (now (a .table))) (take-all (a .cells) f (omega (arith, z, c .before .before .before .pre))))
 
 pub fill-spec : {M : Type 1} → statement M
 fill-spec =
@@ -83,8 +70,6 @@ fill-spec =
     (tie.spec
     Inv-loop
     μ-loop
-    mul-cells
-    add-cells
     loop-holds
     (λ c κs. search needs)
     mul-table

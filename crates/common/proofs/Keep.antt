@@ -1,0 +1,182 @@
+-- A state that passed question 4 passes it again after the call.
+use Prim.Native.Nat.{ℕ, _+_, _-_, _≤_, _<_}
+use mathlib.Core.Path.{_≡_, refl, sym, subst, ap}
+use mathlib.Core.Logic.{_≢_}
+use mathlib.Core.List.{List}
+use mathlib.Core.Bool.{true}
+use native.Mathlib.Omega.{arith}
+use native.Mathlib.Decide.{ℕ-discrete}
+use lib.ListN.{length, getD, set, length-set}
+use lib.Seq.{getD-set-same, getD-set-other}
+use lib.Dec.{leb}
+use borrow.Author.Tests.{leb-true}
+use Rattle.words.specs.Counting.{one, count}
+use Rattle.words.proofs.Laws.Choice.{le-ind, eq-ind, pick-ind, left, right}
+use Rattle.words.proofs.Laws.Counting.{count-one}
+use Rattle.common.specs.declared.Head.{Head}
+use Rattle.common.specs.declared.Writer.{Writer}
+use Rattle.common.specs.declared.Reader.{Reader}
+use Rattle.common.specs.declared.State.{State}
+use Rattle.common.specs.Calls.{Call, write, read, step}
+use Rattle.common.specs.Effects.{AtMostOne, as-it-was, one-set}
+use Rattle.common.specs.Head.{isProcessor}
+use Rattle.common.specs.State.{blank, readerAt, openIn, withWriter, withReader, writerBegins, readerBegins}
+use Rattle.common.specs.Rules.{Rules, stateOk, InRange}
+use Rattle.common.specs.SetUp.{Outcome}
+use Rattle.common.specs.Register.{asProcessor, beginWriteOf, beginReadOf, stepWriter, stepReader, stepOf, callOf}
+use Rattle.common.proofs.HeadLaws.{head-moves}
+use Rattle.common.proofs.LogRows.{end-row, pick-length}
+use Rattle.common.proofs.Lawful.{Lawful}
+use Rattle.common.proofs.Range.{test-range, range-test}
+
+-- A list with at most one place set has its length.
+pub one-length : (b : ℕ) (l m : List ℕ) → AtMostOne b l m → length m ≡ length l
+one-length b l m as-it-was = refl
+one-length b l m (one-set k w h) = length-set l k w
+
+-- What is known of a state with its buffers.
+pub record Good (R : Rules) (s : State) (cells log : ℕ) : Type 0 where
+  pub sized : length (s .readers) ≡ 16
+  pub ok : InRange R s cells log
+
+module _ (R : Rules) (s : State) (cells log : ℕ) (g : Good R s cells log) where
+  abbrev moved : ℕ → Head
+  moved used = record { counted = s .head .counted; n = s .head .n; rows = s .head .rows; used = used }
+
+  -- The writer is replaced, and a row added or not.
+  with-writer : (w : Writer) (used : ℕ) → R .writerOk (s .head .n) w ≡ true → s .head .used ≤ used
+      → used + one (w .active) + openIn s ≤ s .head .rows + one (s .writer .active) → Good R (withWriter s w (moved used)) cells log
+  with-writer w used k l f = record {
+    sized = g .sized;
+    ok = record {
+      head-ok = head-moves _ (s .head) (openIn s) cells log used _ l (omega arith) (g .ok .head-ok);
+      writer-ok = k;
+      readers-ok = g .ok .readers-ok;
+    };
+  }
+
+  -- The same of a reader.
+  with-reader : (i : ℕ) (r : Reader) (used : ℕ) → i < s .head .n → R .readerOk (s .head .n) r ≡ true → s .head .used ≤ used
+      → used + one (r .active) + openIn s ≤ s .head .rows + one (readerAt s i .active) → Good R (withReader s i r (moved used)) cells log
+  with-reader i r used h k l f = record {
+    sized = simp length-set (g .sized);
+    ok = record {
+      head-ok = head-moves _ (s .head) (openIn s) cells log used _ l room (g .ok .head-ok);
+      writer-ok = g .ok .writer-ok;
+      readers-ok = λ j m. elim (ℕ-discrete j i) [ yes e ↦ rw (e, new) k | no e ↦ rw (old j e) (g .ok .readers-ok j m) ];
+    };
+  }
+    where
+      new : getD (set (s .readers) i r) i blank ≡ r
+      new = getD-set-same (s .readers) i r blank (omega (arith, g .sized, g .ok .head-ok .n-high))
+
+      old : (j : ℕ) → j ≢ i → getD (set (s .readers) i r) j blank ≡ getD (s .readers) j blank
+      old j e = getD-set-other (s .readers) i j r blank e
+
+      c : count (s .head .n) (λ j. getD (set (s .readers) i r) j blank .active) + one (readerAt s i .active)
+          ≡ openIn s - one (s .writer .active) + one (getD (set (s .readers) i r) i blank .active)
+      c = omega (arith, count-one (s .head .n) (λ j. getD (set (s .readers) i r) j blank .active) (λ j. readerAt s j .active) i h (λ j e. ap (λ (x : Reader). x .active) (old j e)))
+
+      room : used + openIn (withReader s i r (moved used)) ≤ s .head .rows
+      room = omega (arith, c, ap (λ (x : Reader). one (x .active)) new)
+
+-- After a call.
+pub record Stays (R : Rules) (s : State) (t l : List ℕ) (o : Outcome) : Type 0 where
+  pub n-same : o .state .head .n ≡ s .head .n
+  pub cells-same : length (o .table) ≡ length t
+  pub rows-same : length (o .log) ≡ length l
+  pub good : Good R (o .state) (length t) (length l)
+
+module _ (R : Rules) (W : Lawful R) (s : State) (t l : List ℕ) (g : Good R s (length t) (length l)) where
+  abbrev St : Outcome → Type 0
+  St = Stays R s t l
+
+  abbrev n : ℕ
+  n = s .head .n
+
+  same : (o : Outcome) → o .state ≡ s → o .table ≡ t → o .log ≡ l → St o
+  same o a b c = record {
+    n-same = ap (λ (x : State). x .head .n) a;
+    cells-same = ap length b;
+    rows-same = ap length c;
+    good = subst (λ (x : State). Good R x (length t) (length l)) (sym a) g;
+  }
+
+  write-stays : (v : ℕ) → St (beginWriteOf R s t l v)
+  unfolding beginWriteOf
+  write-stays v = pick-ind St (stateOk R s (length t) (length l)) _ _ (λ _. pick-ind St (s .writer .active) _ _ (λ _. same _ refl refl refl)
+      (λ a. le-ind St (s .head .used + openIn s + 2) (s .head .rows) _ _
+      (λ h. pick-ind St (R .mayWrite (s .writer)) _ _
+      (λ q. record {
+        n-same = refl;
+        cells-same = refl;
+        rows-same = simp length-set;
+        good = with-writer R s _ _ g (writerBegins (s .writer) v) (s .head .used + 1) (W .writer-begins n v (s .writer) (g .ok .head-ok .n-low) (g .ok .writer-ok) q) (omega arith) (omega arith);
+      })
+      (λ _. same _ refl refl refl))
+      (λ _. same _ refl refl refl))) (λ _. same _ refl refl refl)
+
+  -- What is asked of a call by processor p.
+  as-processor : (least p : ℕ) (o : Outcome) → (least ≤ p → p ≤ n → St o) → St (asProcessor s t l least p o)
+  as-processor least p o f =
+      pick-ind St (isProcessor (s .head) least p) _ _
+      (λ e. f (leb-true least p (left (leb least p) (leb p n) e)) (leb-true p n (right (leb least p) (leb p n) e))) (λ _. same _ refl refl refl)
+
+  read-stays : (p : ℕ) → St (beginReadOf R s t l p)
+  unfolding beginReadOf
+  read-stays p = pick-ind St (stateOk R s (length t) (length l)) _ _ (λ _. as-processor 1 p _ λ p1 pn.
+      pick-ind St (readerAt s (p - 1) .active) _ _ (λ _. same _ refl refl refl)
+      (λ a. le-ind St (s .head .used + openIn s + 2) (s .head .rows) _ _
+      (λ h. record {
+        n-same = refl;
+        cells-same = refl;
+        rows-same = simp length-set;
+        good = with-reader R s _ _ g (p - 1) (readerBegins (readerAt s (p - 1))) (s .head .used + 1) (omega arith)
+            (W .reader-begins n (readerAt s (p - 1)) (g .ok .head-ok .n-low) (g .ok .readers-ok (p - 1) (omega arith))) (omega arith) (omega arith);
+      })
+      (λ _. same _ refl refl refl))) (λ _. same _ refl refl refl)
+
+  step-w-stays : s .writer .active ≡ true → St (stepWriter R s t l)
+  unfolding stepWriter
+  step-w-stays a =
+      let q = R .writeStep n (s .writer) t in
+      let f = end-row (s .head .used) (s .head .rows) (openIn s) (s .writer .active) (q .writer .active) (g .ok .head-ok .room) a in
+      record {
+        n-same = refl;
+        cells-same = one-length (R .cells n) t (q .table) (W .write-cell n (s .writer) t (g .ok .head-ok .n-low) (g .ok .writer-ok) a);
+        rows-same = pick-length l (q .writer .active) _ _;
+        good = with-writer R s _ _ g (q .writer) _ (W .writer-turn n (s .writer) t (g .ok .head-ok .n-low) (g .ok .head-ok .n-high) (g .ok .writer-ok) a) (f .0) (f .1);
+      }
+
+  step-r-stays : (p : ℕ) → 1 ≤ p → p ≤ n → readerAt s (p - 1) .active ≡ true → St (stepReader R s t l p)
+  unfolding stepReader
+  step-r-stays p h1 h2 a =
+      let r = readerAt s (p - 1) in
+      let q = R .readStep n p r t in
+      let k = g .ok .readers-ok (p - 1) (omega arith) in
+      let f = end-row (s .head .used) (s .head .rows) (openIn s) (r .active) (q .reader .active) (g .ok .head-ok .room) a in
+      record {
+        n-same = refl;
+        cells-same = one-length (R .cells n) t (q .table) (W .read-cell n p r t h1 h2 k a);
+        rows-same = pick-length l (q .reader .active) _ _;
+        good = with-reader R s _ _ g (p - 1) (q .reader) _ (omega arith) (W .reader-turn n p r t (g .ok .head-ok .n-low) (g .ok .head-ok .n-high) k a) (f .0) (f .1);
+      }
+
+  step-stays : (p : ℕ) → St (stepOf R s t l p)
+  unfolding stepOf
+  step-stays p = pick-ind St (stateOk R s (length t) (length l)) _ _
+      (λ _. as-processor 0 p _ λ _ pn. eq-ind St p 0 _ _ (λ _. pick-ind St (s .writer .active) _ _ step-w-stays (λ _. same _ refl refl refl))
+      (λ ne. pick-ind St (readerAt s (p - 1) .active) _ _ (step-r-stays p (omega arith) pn) (λ _. same _ refl refl refl)))
+      (λ _. same _ refl refl refl)
+
+  pub call-stays : (c : Call) → St (callOf R s t l c)
+  unfolding callOf
+  call-stays (write v) = write-stays v
+  call-stays (read p) = read-stays p
+  call-stays (step p) = step-stays p
+
+-- "a state that passed 4 passes it again after the call"
+pub passes-again : (R : Rules) → Lawful R → (s : State) (t l : List ℕ) (c : Call) → length (s .readers) ≡ 16 → stateOk R s (length t) (length l) ≡ true
+    → stateOk R (callOf R s t l c .state) (length (callOf R s t l c .table)) (length (callOf R s t l c .log)) ≡ true
+passes-again R W s t l c z e =
+    let k = call-stays R W s t l (record { sized = z; ok = test-range R s _ _ e }) c in rw (k .cells-same, k .rows-same) (range-test R _ _ _ (k .good .ok))

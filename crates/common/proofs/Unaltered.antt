@@ -1,0 +1,70 @@
+-- A refused call alters nothing.
+use Prim.Native.Nat.{ℕ, _-_}
+use mathlib.Core.Path.{_≡_, refl, sym, ap, _∙_}
+use mathlib.Core.Bool.{Bool, true, false}
+use mathlib.Core.List.{List}
+use lib.ListN.{length}
+use lib.Dec.{eqb}
+use Rattle.words.specs.Choice.{pick}
+use Rattle.words.proofs.Laws.Choice.{pick-ind, never}
+use Rattle.common.specs.Calls.{Call, write, read, step}
+use Rattle.common.specs.declared.Answer.{Answer}
+use Rattle.common.specs.declared.Answer.the-variants.{Accepted, Moved, Refused}
+use Rattle.common.specs.declared.Refusal.{Refusal}
+use Rattle.common.specs.declared.State.{State}
+use Rattle.common.specs.Effects.{Unaltered}
+use Rattle.common.specs.Head.{isProcessor, hasRoom}
+use Rattle.common.specs.State.{readerAt, openIn}
+use Rattle.common.specs.Rules.{Rules, stateOk}
+use Rattle.common.specs.SetUp.{Outcome, refused}
+use Rattle.common.specs.Register.{inRange, asProcessor, beginWriteOf, beginReadOf, stepWriter, stepReader, stepOf, callOf}
+
+abbrev isRefused : Answer → Bool
+isRefused Accepted = false
+isRefused (Moved k) = false
+isRefused (Refused r) = true
+
+module _ (R : Rules) (s : State) (t l : List ℕ) where
+  -- what is to be shown of an outcome
+  Keeps : Outcome → Type 0
+  Keeps o = (r : Refusal) → o .answer ≡ Refused r → Unaltered s t l o
+
+  refuses : (r : Refusal) → Keeps (refused r s t l)
+  unfolding Keeps
+  refuses r _ _ = record { state-same = refl; table-same = refl; log-same = refl }
+
+  takes : (o : Outcome) → isRefused (o .answer) ≡ false → Keeps o
+  unfolding Keeps
+  takes o f r e = never (sym (ap isRefused e) ∙ f)
+
+  in-range : (o : Outcome) → Keeps o → Keeps (inRange R s t l o)
+  in-range o h = pick-ind Keeps (stateOk R s (length t) (length l)) _ _ (λ _. h) (λ _. refuses _)
+
+  as-processor : (least p : ℕ) (o : Outcome) → Keeps o → Keeps (asProcessor s t l least p o)
+  as-processor least p o h = pick-ind Keeps (isProcessor (s .head) least p) _ _ (λ _. h) (λ _. refuses _)
+
+  -- question 7, and then o
+  if-room : (o : Outcome) → Keeps o → (r : Refusal) → Keeps (pick (hasRoom (s .head) (openIn s)) o (refused r s t l))
+  if-room o h r = pick-ind Keeps (hasRoom (s .head) (openIn s)) _ _ (λ _. h) (λ _. refuses _)
+
+  write-keeps : (v : ℕ) → Keeps (beginWriteOf R s t l v)
+  unfolding beginWriteOf
+  write-keeps v = in-range _ (pick-ind Keeps (s .writer .active) _ _ (λ _. refuses _)
+      (λ _. if-room _ (pick-ind Keeps (R .mayWrite (s .writer)) _ _ (λ _. takes _ refl) (λ _. refuses _)) _))
+
+  read-keeps : (p : ℕ) → Keeps (beginReadOf R s t l p)
+  unfolding beginReadOf
+  read-keeps p = in-range _ (as-processor 1 p _ (pick-ind Keeps (readerAt s (p - 1) .active) _ _ (λ _. refuses _) (λ _. if-room _ (takes _ refl) _)))
+
+  step-keeps : (p : ℕ) → Keeps (stepOf R s t l p)
+  unfolding stepOf stepWriter stepReader
+  step-keeps p = in-range _ (as-processor 0 p _ (pick-ind Keeps (eqb p 0) _ _
+      (λ _. pick-ind Keeps (s .writer .active) _ _ (λ _. takes _ refl) (λ _. refuses _))
+      (λ _. pick-ind Keeps (readerAt s (p - 1) .active) _ _ (λ _. takes _ refl) (λ _. refuses _))))
+
+  -- "A no gives its number and alters nothing."
+  pub call-unaltered : (c : Call) (r : Refusal) → callOf R s t l c .answer ≡ Refused r → Unaltered s t l (callOf R s t l c)
+  unfolding callOf Keeps
+  call-unaltered (write v) = write-keeps v
+  call-unaltered (read p) = read-keeps p
+  call-unaltered (step p) = step-keeps p

@@ -1,0 +1,77 @@
+-- Demand 3, as far as it is the same for both registers.
+use Prim.Native.Nat.{ℕ, _^_, _<_}
+use mathlib.Core.Path.{_≡_, refl, sym, subst, ap, _∙_}
+use mathlib.Core.List.{List}
+use lib.Dec.{T}
+use lib.ListN.{length, length-set}
+use lib.Seq.{take-at, drop-at}
+use Rattle.history.specs.Swept.{Swept}
+use Rattle.history.specs.WellFormed.{wellFormed}
+use Rattle.history.proofs.Theorems.{swept-ordered, swept-without-bands}
+use Rattle.common.specs.Calls.{Call, step}
+use Rattle.common.specs.Moves.{Moves}
+use Rattle.common.specs.declared.Answer.the-variants.{Accepted}
+use Rattle.common.specs.declared.Writer.{Writer}
+use Rattle.common.specs.declared.Reader.{Reader}
+use Rattle.common.specs.Rules.{Rules}
+use Rattle.common.specs.SetUp.{setUpOf}
+use Rattle.common.specs.Register.{callOf, Ran, ranFrom}
+use Rattle.common.specs.Book.{Operation, isOpen, Model, Telling, told, freshModel}
+use Rattle.common.specs.Whole.{modelOf, still, next, AsBook}
+use Rattle.common.proofs.Lawful.{Lawful, Simulates}
+use Rattle.common.proofs.Range.{range-test}
+use Rattle.common.proofs.Run.{FromSetUp, from-set-up, kept-fine}
+use Rattle.common.proofs.Formed.{rows-formed}
+
+module _ {Stamp Cell : Type 0} (R : Rules) (B : Telling Stamp Cell) (WIs : ℕ → Writer → Stamp → Operation Cell → Type 0)
+    (RIs : ℕ → Reader → Stamp → Operation Cell → Type 0) (W : Lawful R) (S : Simulates R B WIs RIs)
+    (n v fresh : ℕ) (low : fresh < 2 ^ 32) (t l : List ℕ) (cs : List Call) (e : setUpOf R n v fresh t l .answer ≡ Accepted) where
+  abbrev r : Ran
+  r = ranFrom R n v fresh t l cs
+
+  abbrev b : Model Stamp Cell
+  b = modelOf B n v fresh l cs .model
+
+  pub start : FromSetUp R B WIs RIs n v fresh t l (setUpOf R n v fresh t l) cs
+  start = from-set-up R B WIs RIs W S n v fresh low t l cs e
+
+  pub n-is : ranFrom R n v fresh t l cs .state .head .n ≡ n
+  n-is = start .runs .n-same ∙ start .n-is
+
+  pub rows-is : ranFrom R n v fresh t l cs .state .head .rows ≡ length l
+  rows-is = start .runs .rows-same ∙ start .rows-is
+
+  pub full : length (setUpOf R n v fresh t l .log) ≡ ranFrom R n v fresh t l cs .state .head .rows
+  full = ap length (start .log-is) ∙ length-set l 0 _ ∙ sym rows-is
+
+  size : length (modelOf B n v fresh l cs .model .table) ≡ R .cells n
+  size = start .runs .rel .size-is ∙ ap (R .cells) n-is
+
+  -- The sub-step that follows, with the state's n and rows as set-up had them: it ends at f n.
+  pub as-set-up : (p m : ℕ) (f : ℕ → ℕ)
+      → Moves (callOf R (r .state) (r .table) (r .log) (step p) .answer) (isOpen (told B (r .state .head .n) (r .state .head .rows) b (step p) .model .op p)) m (f (r .state .head .n))
+      → Moves (next R n v fresh t l cs (step p) .answer) (still B n v fresh l cs p) m (f n)
+  as-set-up p m f h =
+      subst (λ (k : ℕ). Moves (callOf R (r .state) (r .table) (r .log) (step p) .answer) (isOpen (told B k (length l) b (step p) .model .op p)) m (f k)) n-is
+      (subst (λ (k : ℕ). Moves (callOf R (r .state) (r .table) (r .log) (step p) .answer) (isOpen (told B (r .state .head .n) k b (step p) .model .op p)) m (f (r .state .head .n))) rows-is h)
+
+  formed : T (wellFormed (modelOf B n v fresh l cs .model .rows))
+  formed = rows-formed B n (start .n-high) (length l) (S .write-value n) v fresh cs (start .n-low)
+
+  -- A log that is swept row by row has an order, and no row of it is a band.
+  pub as-book : (F : ℕ) × (fl : ℕ → ℕ) × (w : ℕ) × Swept (b .rows) F fl w → AsBook R B n v fresh t l cs
+  as-book swept =
+      let A = start .runs .rel in
+      record {
+        answers-are = start .runs .answers-are;
+        cells-are = rw (A .table-is) (take-at (b .table) _ (R .cells n) size);
+        used-is = A .used-is;
+        rows-are = rw (A .log-is, A .used-is) (take-at (b .rows) _ _ refl);
+        cells-beyond = rw (A .table-is) (drop-at (b .table) _ (R .cells n) size ∙ sym (start .beyond));
+        rows-beyond = rw (A .log-is, A .used-is) (drop-at (b .rows) _ _ refl);
+        question-4 = rw (start .runs .answers-are) (kept-fine B n (length l) (freshModel B n v fresh) cs);
+        passes-4 = range-test R _ _ _ (start .runs .good .ok);
+        formed = formed;
+        ordered = swept-ordered _ formed (swept .3);
+        no-bands = swept-without-bands _ formed (swept .3);
+      }

@@ -1,0 +1,12 @@
+pub mod Answers
+pub mod Calls
+pub mod CallWords
+pub mod Head
+pub mod State
+pub mod Rules
+pub mod SetUp
+pub mod Register
+pub mod Book
+pub mod Moves
+pub mod Effects
+pub mod Whole

@@ -1,0 +1,10 @@
+pub mod Table
+pub mod Largest
+pub mod Turns
+pub mod Atomic
+pub mod Range
+pub mod Effects
+pub mod Laws
+pub mod TurnRel
+pub mod Counts
+pub mod Whole

@@ -1,0 +1,77 @@
+use Rattle.register.proofs.KindLaws.{cells-low, fresh-words, kind-is}
+use Rattle.register.proofs.CallLaws.{refusal, no-readers, no-cells, no-rows, all-set}
+use Rattle.register.specs.Rules.{rulesOf}
+use Rattle.common.specs.SetUp.{noState}
+use Rattle.words.proofs.Laws.Choice.{left, right}
+use borrow.Author.Tests.{leb-true}
+use lib.Dec.{leb}
+use lib.ListN.{length}
+use denote.Ref.{now}
+use mathlib.Core.Path.{_∙_, ap, sym}
+use native.Mathlib.Omega.{arith}
+use borrow.Author.Needs.{needs}
+use Rattle.register.proofs.set_up.set_up_of.Statement.{statement}
+use Rattle.register.proofs.set_up.set_up_of.Tie as tie
+
+fill-requires : tie.Need-fill-requires
+fill-requires c κs =
+    let a = c .before .before .before .before .before .before .before .before .before .args in
+    let h = leb-true 1 (a .n) (left (leb 1 (a .n)) _ (c .before .before .before .before .before .before .if1 .taken)) in
+    (omega (arith, cells-low (a .counted) (a .n) h, c .before .before .before .before .before .cells-of .ensures), c .before .before .before .before .if2 .taken)
+
+cast-row-of : tie.Need-cast-row-of
+cast-row-of c =
+    let a = c .before .before .before .before .before .before .before .before .before .before .before .before .args in
+    omega (arith, leb-true (a .n) 16 (right (leb 1 (a .n)) _ (c .before .before .before .before .before .before .before .before .before .if1 .taken)))
+
+slice-write-log : tie.Need-slice-write-log
+slice-write-log c =
+    let l = length (now (c .before .before .before .before .before .before .before .before .before .before .before .before .before .args .log)) in
+    omega (arith, leb-true 3 l (left (leb 3 l) _ (c .before .before .before .before .before .before .before .if3 .taken)))
+
+returns : tie.Need-returns
+returns c =
+    let a = c .before .before .before .before .before .before .before .before .before .before .before .before .before .before .args in
+    rw (c .before .before .before .before .fill .ensures, c .before .row-of .ensures, c .fresh-state .ensures)
+    (all-set (rulesOf (a .counted)) (a .n) (a .value) (a .fresh) (now (a .table)) (now (a .log)) (c .before .before .before .before .before .before .before .before .before .before .before .if1 .taken) _ _ _ (c .before .before .before .before .before .before .before .before .before .before .cells-of .ensures) (c .before .before .before .before .before .before .before .before .before .if2 .taken) (c .before .before .before .before .before .before .before .before .if3 .taken) (sym (kind-is (a .counted)))
+    (fresh-words (a .counted) (a .n) (a .value) (a .fresh) _ _ _ (c .before .before .before .before .before .before .before .before .before .before .cells-of .ensures) (c .before .before .before .before .before .before .before .own-word .ensures) (c .before .before .before .before .before .before .other-word .ensures)))
+
+returns-2 : tie.Need-returns-2
+returns-2 c =
+    let a = c .before .before .before .before .before .before .before .args in
+    refusal (c .no-set-up .result) _ _ _ _ (c .no-set-up .ensures .0) (c .no-set-up .ensures .1 ∙ ap noState (sym (kind-is (a .counted))))
+    ∙ no-rows (rulesOf (a .counted)) (a .n) (a .value) (a .fresh) (now (a .table)) (now (a .log)) (c .before .before .before .before .if1 .taken) (omega (arith, c .before .before .if2 .taken, c .before .before .before .cells-of .ensures)) (c .before .if3 .left)
+
+returns-3 : tie.Need-returns-3
+returns-3 c =
+    let a = c .before .before .before .before .before .before .args in
+    refusal (c .no-set-up2 .result) _ _ _ _ (c .no-set-up2 .ensures .0) (c .no-set-up2 .ensures .1 ∙ ap noState (sym (kind-is (a .counted))))
+    ∙ no-cells (rulesOf (a .counted)) (a .n) (a .value) (a .fresh) (now (a .table)) (now (a .log)) (c .before .before .before .if1 .taken) (omega (arith, c .before .if2 .left, c .before .before .cells-of .ensures))
+
+returns-4 : tie.Need-returns-4
+returns-4 c =
+    let a = c .before .before .before .before .args in
+    refusal (c .no-set-up3 .result) _ _ _ _ (c .no-set-up3 .ensures .0) (c .no-set-up3 .ensures .1 ∙ ap noState (sym (kind-is (a .counted))))
+    ∙ no-readers (rulesOf (a .counted)) (a .n) (a .value) (a .fresh) (now (a .table)) (now (a .log)) (c .before .if1 .left)
+
+pub set-up-of-spec : {M : Type 1} → statement M
+set-up-of-spec =
+    tie.close
+    (tie.spec
+    (λ c κs. search needs)
+    (λ c κs. search needs)
+    (λ c κs. search needs)
+    fill-requires
+    cast-row-of
+    (λ c κs. search needs)
+    slice-write-log
+    (λ c κs. search needs)
+    (λ c. search needs)
+    (λ c. search needs)
+    returns
+    (λ c κs. search needs)
+    returns-2
+    (λ c κs. search needs)
+    returns-3
+    (λ c κs. search needs)
+    returns-4)

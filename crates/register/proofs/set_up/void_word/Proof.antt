@@ -1,9 +1,0 @@
-use borrow.Author.Needs.{needs}
-use Rattle.register.proofs.set_up.void_word.Statement.{statement}
-use Rattle.register.proofs.set_up.void_word.Tie as tie
-
-returns : tie.Need-returns
-returns c = rw (c .pack .ensures, c .before .no-stamp .ensures)
-
-pub void-word-spec : {M : Type 1} → statement M
-void-word-spec = tie.close (tie.spec (λ c κs. search needs) (λ c κs. search needs) returns)

@@ -1,0 +1,16 @@
+-- What a session lends, and calls that it repeats.
+use Prim.Native.Nat.{ℕ}
+use mathlib.Core.List.{List}
+use lib.ListN.{replicate}
+use Rattle.common.specs.Calls.{Call, step}
+
+-- a table of k cells and a log of k rows to lend, with leftover words
+abbrev pub lent : ℕ → List ℕ
+lent k = replicate k 77
+
+abbrev pub paper : ℕ → List ℕ
+paper k = replicate k 55
+
+-- k sub-steps of processor p
+abbrev pub times : ℕ → ℕ → List Call
+times k p = replicate k (step p)

@@ -1,0 +1,18 @@
+#!/usr/bin/env bash
+# Both registers called from C, against the outside model on random lists of calls: registers.sh [COUNT]. Not part of the gate.
+set -euo pipefail
+cd "$(dirname "$0")/.."
+count=${1:-4000}
+out=$(mktemp -d)
+trap 'rm -rf "$out"' EXIT
+
+rt staticlib host > "$out/prove.txt" || { tail "$out/prove.txt"; exit 1; }
+gcc -std=c99 -Wall -Wextra -Werror -O2 -I include tests/registers.c target/staticlib/libhost.a -o "$out/registers"
+python3 tests/register_lists.py "$out" "$count"
+"$out/registers" < "$out/in" > "$out/given"
+cmp "$out/expected" "$out/given"
+
+gcc -std=c99 -Wall -Wextra -Werror -O2 -I include examples/counted.c target/staticlib/libhost.a -o "$out/counted"
+"$out/counted" < examples/counted.calls > "$out/example"
+cmp examples/counted.out "$out/example"
+echo "$count lists and the example: C and the model agree; $SECONDS s"
