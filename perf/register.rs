@@ -193,6 +193,12 @@ impl Writer {
         self.barred | bit(self.stamp.cur) | bit(self.stamp.prev)
     }
 
+    fn new_ticket(&self, n: u32) -> u8 {
+        let free = !self.all_barred();
+        let above = (free & u64::MAX.checked_shl(self.stamp.cur as u32 + 1).unwrap_or(0)).trailing_zeros();
+        (if above <= 3 * n + 2 { above } else { free.trailing_zeros() }) as u8
+    }
+
     fn in_range(&self, n: u32) -> bool {
         let tickets = |moved| {
             if moved <= n { self.all_barred().count_ones() <= 2 + 3 * moved } else { self.ticket < 64 }
@@ -209,7 +215,7 @@ impl Writer {
             return;
         }
         if k == n {
-            self.ticket = (!self.all_barred()).trailing_zeros() as u8;
+            self.ticket = self.new_ticket(n as u32);
         }
         let stamp = Stamp { cur: self.ticket, prev: self.stamp.cur };
         table[place(n, 0, k - n + 1)] = Cell { reading: self.reading, stamp, announced: NONE }.pack();

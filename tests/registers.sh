@@ -12,7 +12,9 @@ python3 tests/register_lists.py "$out" "$count"
 "$out/registers" < "$out/in" > "$out/given"
 cmp "$out/expected" "$out/given"
 
-gcc -std=c99 -Wall -Wextra -Werror -O2 -I include examples/counted.c target/staticlib/libhost.a -o "$out/counted"
-"$out/counted" < examples/counted.calls > "$out/example"
-cmp examples/counted.out "$out/example"
-echo "$count lists and the example: C and the model agree; $SECONDS s"
+gcc -std=c99 -Wall -Wextra -Werror -O2 -I include examples/scope.c target/staticlib/libhost.a -o "$out/scope"
+for calls in examples/*.calls; do
+    "$out/scope" < "$calls" > "$out/example"
+    cmp "${calls%.calls}.out" "$out/example"
+done
+echo "$count lists and the examples: C and the model agree; $SECONDS s"

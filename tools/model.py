@@ -1,6 +1,6 @@
 #!/usr/bin/env python3
 """Outside model of the arrow register and its judge, written from document 01 alone, and from
-document 02 for the requests that have landed (card 3; card 6; card 9, with its report CS-R8704;
+document 02 for the requests that have landed (cards 2, 3 and 6; card 9, with its report CS-R8704;
 card 13; card 4 changes nothing that is told here).
 
     model.py bench              text on standard input, the bench's print on standard output
@@ -21,7 +21,7 @@ import sys
 from bisect import bisect_left
 from collections import Counter, namedtuple
 from dataclasses import dataclass, field, replace
-from itertools import count, product
+from itertools import chain, count, product
 
 MAX_READERS = 16
 MAX_ROWS = 4096
@@ -203,7 +203,7 @@ class Register(Calls):
             write.seen.append(self._load(k, 0))
             return
         if k == n + 1:
-            write.stamp = (new_ticket(write.seen, self.own[0]), self.own[0][0])
+            write.stamp = (new_ticket(n, self.own[0], barred_by(write.seen)), self.own[0][0])
         self._store(0, k - n, Cell(write.reading, write.stamp))
         if k == 2 * n:
             self.own[0] = write.stamp
@@ -247,13 +247,17 @@ class Register(Calls):
         self.table[cell_index(self.n, i, j)] = pack_cell(cell)
 
 
-def new_ticket(cells, own):
-    """“the smallest that is not barred”: by each cell's prev and announced pair, by own."""
-    barred = set(own)
-    for cell in cells:
-        barred.update((cell.stamp[1],) + cell.announced)
-    barred.discard(NONE)  # “None bars nothing”
-    return next(ticket for ticket in count() if ticket not in barred)
+def barred_by(cells):
+    """“Barred are the prev, announced cur and announced prev of each”."""
+    return {ticket for cell in cells for ticket in (cell.stamp[1],) + cell.announced}
+
+
+def new_ticket(n, own, barred):
+    """“the smallest unbarred one above the writer's cur and up to 3n+2, and if there is none
+    above, the smallest unbarred” (02, card 2); barred also by “the writer's own cur and prev”."""
+    barred = (barred | set(own)) - {NONE}  # “None bars nothing.”
+    above = range(own[0] + 1, 3 * n + 3)
+    return next(ticket for ticket in chain(above, count()) if ticket not in barred)
 
 
 def close_attempt(read):
@@ -1043,7 +1047,7 @@ def test_cell_sessions():
     register = fresh_register(1, 7)
     equal(cell_text(register, 0), '00000007001FFF00', 'fresh cell 0')
     equal(cell_text(register, 1), '00000000FFFFFF00', 'fresh cell 1')
-    for v, stamp in ((9, (2, 0)), (8, (1, 2)), (7, (0, 1))):
+    for v, stamp in ((9, (2, 0)), (8, (3, 2)), (7, (4, 3))):
         equal(whole_write(register, v), ('step', 2), 'last sub-step of a write')
         equal(unpack_cell(register.table[0]), Cell(v, stamp), 'cell after a write')
         if v == 9:
@@ -1090,6 +1094,16 @@ def changed_places(register, p, times):
     return places
 
 
+def test_new_tickets():
+    """Readers, the writer's own stamp and what the cells bar; the new ticket by hand (02, card 2)."""
+    for n, own, barred, ticket in (
+            (1, (0, 1), (), 2), (1, (2, 0), (), 3), (1, (4, 3), (), 5), (1, (5, 4), (), 0),
+            (1, (5, 4), (0, 1), 2), (1, (1, 0), (2, 3), 4), (1, (1, 0), (2, 3, 4), 5),
+            (2, (5, 4), (), 6), (2, (8, 7), (), 0), (2, (7, 8), (), 0), (2, (9, 1), (0,), 2),
+            (16, (49, 48), (), 50), (16, (50, 49), (0,), 1), (2, NO_STAMP, (), 0)):
+        equal(new_ticket(n, own, set(barred)), ticket, f'new ticket of {n}, {own}, {barred}')
+
+
 def test_rules():
     """Rules that no session shows."""
     register = fresh_register(3, 7)  # which word each sub-step moves
@@ -1099,15 +1113,18 @@ def test_rules():
     equal(changed_places(register, 2, 9), [None, 6] + [None] * 4 + [7, 8, 6], 'stores of a read')
 
     register = fresh_register(1, 7)  # only the second look differs
+    for v in range(2):
+        whole_write(register, v)
     register.begin_read(1)
     steps(register, 1, 1)
-    whole_write(register, 1)
-    whole_write(register, 2)
+    stamp = unpack_cell(register.table[0]).stamp
+    for v in range(5):  # of the six names; the sixth write comes round to the same stamp
+        whole_write(register, v)
     register.begin_write(3)
     steps(register, 0, 1)
     steps(register, 1, 2)
     steps(register, 0, 1)
-    equal(unpack_cell(register.table[0]).stamp, FIRST_STAMP, 'first and third look agree')
+    equal(unpack_cell(register.table[0]).stamp, stamp, 'first and third look agree')
     equal(steps(register, 1, 6), ('step', 9), 'last sub-step of the second attempt')
     equal(last_result(register), 3, 'result of the second attempt')
 
@@ -1524,6 +1541,7 @@ def selftest():
     test_words()
     test_cell_sessions()
     test_run_sessions()
+    test_new_tickets()
     test_rules()
     test_register_questions()
     test_judge_questions()

@@ -14,7 +14,8 @@ sys.dont_write_bytecode = True
 
 from bench_inputs import EXAMPLE, bench_inputs
 from draw import listed, picture
-from model import Counted, MAX_ROWS, bench, bytes_of, log_of
+from model import (
+    MAX_ROWS, NO_STAMP, Counted, Register, bench, bytes_of, log_of, unpack_cell, unpack_counted)
 from soak import soak_lines
 from trials_expected import trials_lines
 from verdict_logs import STANDARD_INPUT, expected, verdict_logs
@@ -54,7 +55,8 @@ def examples():
         yield path.stem + '.out', print_.encode()
         if path.stem == 'patroller':
             yield path.stem + '.svg', picture(print_).encode()
-    yield 'counted.out', lines_of(counted((ROOT / 'examples/counted.calls').read_text()))
+    for path in sorted((ROOT / 'examples').glob('*.calls')):
+        yield path.stem + '.out', lines_of(scope(path.read_text()))
     for name, rows in SOUNDER_LOGS.items():
         data = bytes_of(rows)
         line = expected(name, data) + '\n'
@@ -63,20 +65,33 @@ def examples():
         yield name + '.svg', picture(listed(data) + line).encode()
 
 
-def counted(text):
-    """What examples/counted.c prints for its calls."""
+def scope(text):
+    """What examples/scope.c prints for its calls."""
     first, *calls = text.splitlines()
-    n, start, fresh = map(int, first.split())
-    register = Counted()
-    register.set_up(n, start, fresh, [0] * (n * n), [0] * MAX_ROWS)
+    n, start, *fresh = map(int, first.split())
+    register = Counted() if fresh else Register()
+    register.set_up(n, start, *fresh, [0] * (n * n if fresh else n * n + n), [0] * MAX_ROWS)
     makers = {'W': register.begin_write, 'R': register.begin_read, 'S': register.step}
     told = {'begun': 'begun', 'step': 'sub-step {}', 'refused': 'refused {}'}
     for call in calls:
+        before = list(register.table)
         letter, number = call.split()
         what, *value = makers[letter](int(number))
-        yield f'{call}: {told[what].format(*value)}'
+        changed = [cell_text(i, word, fresh) for i, word in enumerate(register.table) if word != before[i]]
+        yield ', '.join([f'{call}: {told[what].format(*value)}', *changed])
     yield ' '.join(['cells', *(f'{word:016X}' for word in register.table)])
     yield ' '.join(['rows', *(f'{word:016X}' for word in register.log[:register.used])])
+
+
+def cell_text(i, word, counted):
+    if counted:
+        return f'cell {i} {word:016X} stamp {unpack_counted(word).stamp}'
+    cell = unpack_cell(word)
+    return f'cell {i} {word:016X} stamp {stamp_text(cell.stamp)} announced {stamp_text(cell.announced)}'
+
+
+def stamp_text(stamp):
+    return 'none' if stamp == NO_STAMP else '{},{}'.format(*stamp)
 
 
 def lines_of(lines):

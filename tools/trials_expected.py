@@ -8,9 +8,9 @@ nothing”.
 from dataclasses import replace
 
 from model import (
-    FIRST_STAMP, LAST_STAMP, NO_STAMP, Counted, CountedCell, CountedRange, Register, TicketRange,
-    bytes_of, call_line, counted_index, in_range, judge, judge_bytes, log_of, pack_counted,
-    pack_row)
+    FIRST_STAMP, LAST_STAMP, NO_STAMP, Cell, Counted, CountedCell, CountedRange, Register,
+    TicketRange, bytes_of, call_line, counted_index, in_range, judge, judge_bytes, log_of,
+    new_ticket, pack_cell, pack_counted, pack_row)
 from verdict_logs import OPEN_READ, OPEN_WRITE, START
 
 MARK = (1 << 64) - 1  # what buffers hold before anything is written to them
@@ -172,6 +172,27 @@ def range_line(name, state):
     """Five calls, each with the same state."""
     calls = ('W 5', 'W', 0), ('R 2', 'R', 2), ('S 0', 'S', 0), ('S 1', 'S', 1), ('S 99', 'S', 99)
     return name + ''.join(call_text(call, answer_with(state, *made)) for call, *made in calls)
+
+
+# The new ticket in states handed in
+
+def ticket_line(own, barred):
+    """A write of 9 with two readers, that has read both cells; its first store."""
+    state = replace(write(2, barred, 63)[1], own=[own] + [NO_STAMP] * 16)
+    call = call_text('S 0', answer_with(state, 'S', 0))
+    cells = [pack_cell(Cell(9, (new_ticket(2, own, set(barred)), own[0])))] + [MARK] * 5
+    excluded = sum(1 << ticket for ticket in barred)
+    return f'own stamp {own[0]} {own[1]}, set excluded {excluded}{call}; cells{hex_text(cells)}'
+
+
+TICKETS = [
+    # Above cur and up to 8.
+    ((0, 1), ()), ((3, 2), (4, 5)), ((6, 5), (7,)), ((0, 1), range(2, 8)),
+    ((4, 4), (0, 1, 2, 3, 5, 6, 7)),
+    # None above: the smallest.
+    ((8, 7), ()), ((7, 8), (0,)), ((6, 5), (7, 8)), ((8, 8), range(0, 7)),
+    ((9, 1), (0,)), ((62, 0), ()), ((63, 63), ()), ((63, 63), (0, 1, 2)),
+]
 
 
 # The counted register
@@ -372,6 +393,7 @@ def trials_lines():
     yield from (set_up_line(*sizes) for sizes in SET_UPS)
     yield from (script_line(*script) for script in SCRIPTS)
     yield from (range_line(*state) for state in RANGES)
+    yield from (ticket_line(*state) for state in TICKETS)
     yield from counted_lines()
     yield from lengths()
     yield from (log_line(rows, 0) for rows in MALFORMED)

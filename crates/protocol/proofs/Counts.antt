@@ -26,12 +26,11 @@ use Rattle.common.proofs.Refine.{Rel, call-rel}
 use Rattle.common.proofs.Counts.{write-told, read-told, write-number, read-number}
 use Rattle.protocol.specs.Table.{view, store}
 use Rattle.protocol.specs.InRange.{ReaderInRange}
-use Rattle.protocol.specs.Reference.{Model, newTicket, excludedTickets, Turn, writeTurn, failed, attemptTurn, resultTurn, readTurn, book, Told}
+use Rattle.protocol.specs.Reference.{Model, excludedTickets, ticketAfter, Turn, writeTurn, failed, attemptTurn, resultTurn, readTurn, book, Told}
 use Rattle.protocol.specs.Rules.{ticketRules}
 use Rattle.protocol.specs.Whole.{NewTicket}
-use Rattle.protocol.proofs.NewTicket.{barred-length}
-use Rattle.protocol.proofs.Smallest.{New}
-use Rattle.protocol.proofs.WriterRel.{WRel, WriterRel, WIs, taken-is}
+use Rattle.protocol.proofs.NewTicket.{walks, walks-unbarred, after-low}
+use Rattle.protocol.proofs.WriterRel.{WRel, WriterRel, WIs}
 use Rattle.protocol.proofs.ReaderRel.{RRel, ReaderRel, RIs}
 use Rattle.protocol.proofs.Range.{writer-in, reader-in}
 use Rattle.protocol.proofs.Simulates.{simulates}
@@ -74,20 +73,18 @@ module _ (X L : List ℕ) (s : State) (t l : List ℕ) (b : Model) (g : Good tic
 
     -- the first store: its cell holds the new ticket
     module _ (at : m ≡ n) where
-      taken : New (excludedTickets (b .stamp 0) cells) (newTicket (excludedTickets (b .stamp 0) cells))
-      taken =
-          let z = taken-is n (g .ok .head-ok .n-low) (g .ok .head-ok .n-high) (b .table) X (R .size-is) (s .writer) (b .stamp 0) v m cells K (R .writer-is .stamp-is) (writer-in n (s .writer) (g .ok .writer-ok)) at in
-          subst (New (excludedTickets (b .stamp 0) cells)) (z .is-new) z
+      abbrev ticket : ℕ
+      ticket = ticketAfter n (b .stamp 0) cells
 
-      ticket-low : newTicket (excludedTickets (b .stamp 0) cells) ≤ 3 * n + 2
-      ticket-low = omega (arith, taken .most, barred-length (b .stamp 0) cells, K .length-is (omega arith))
+      ticket-low : ticket ≤ 3 * n + 2
+      ticket-low = after-low n (b .stamp 0) cells (omega (arith, K .length-is (omega arith)))
 
       abbrev Stores : Turn → Type 0
-      Stores x = view n (x .table ++ X) 0 1 .stamp .cur ≡ newTicket (excludedTickets (b .stamp 0) cells)
+      Stores x = view n (x .table ++ X) 0 1 .stamp .cur ≡ ticket
 
       -- what is stored to reader 1 shows the ticket
-      shows : (c : Cell) → c .stamp .cur ≡ newTicket (excludedTickets (b .stamp 0) cells)
-          → view n (store n (b .table) 0 (m - n + 1) c ++ X) 0 1 .stamp .cur ≡ newTicket (excludedTickets (b .stamp 0) cells)
+      shows : (c : Cell) → c .stamp .cur ≡ ticket
+          → view n (store n (b .table) 0 (m - n + 1) c ++ X) 0 1 .stamp .cur ≡ ticket
       shows c q =
           let one : m - n + 1 ≡ 1 = omega arith in
           let low = index-low n 0 1 (omega (arith, g .ok .head-ok .n-low)) in
@@ -106,14 +103,16 @@ module _ (X L : List ℕ) (s : State) (t l : List ℕ) (b : Model) (g : Good tic
           lt-ind Stores m n _ _ (λ h. absurd (omega arith))
           (λ _. lt-ind Stores (m + 1) (2 * n) _ _ (λ _. shows _ refl) (λ _. shows _ refl))
 
-      stored : view n (callOf ticketRules s t l (step 0) .table) 0 1 .stamp .cur ≡ newTicket (excludedTickets (b .stamp 0) cells)
+      stored : view n (callOf ticketRules s t l (step 0) .table) 0 1 .stamp .cur ≡ ticket
       stored =
           ap (λ (x : List ℕ). view n x 0 1 .stamp .cur) (call-rel ticketRules book WIs RIs simulates X L s t l b g R full (step 0) .rel .table-is)
           ∙ ap (λ (x : Told). view n (x .model .table ++ X) 0 1 .stamp .cur) step-is
           ∙ stores
 
-      pub first-ticket : NewTicket n (callOf ticketRules s t l (step 0) .table) (excludedTickets (b .stamp 0) cells)
-      first-ticket = record { not-excluded = rw stored (taken .out); one-of = rw stored ticket-low }
+      pub first-ticket : NewTicket n (b .stamp 0 .cur) (callOf ticketRules s t l (step 0) .table) (excludedTickets (b .stamp 0) cells)
+      first-ticket =
+          let w = walks (excludedTickets (b .stamp 0) cells) n (b .stamp 0 .cur) in
+          record { not-excluded = rw stored (walks-unbarred n (b .stamp 0 .cur) w); one-of = rw stored ticket-low; walks = rw stored w }
 
   module _ (p : ℕ) (p1 : 1 ≤ p) (pn : p ≤ s .head .n) (v m : ℕ) (cells : List Cell) (e : b .op p ≡ open-with v m cells) where
     KR : RRel n (readerAt s (p - 1)) m cells

@@ -4,6 +4,7 @@ use mathlib.Core.Path.{_≡_, refl, sym, ap, _∙_}
 use mathlib.Core.List.{List}
 use mathlib.Core.Bool.{Bool, true, false, _||_}
 use native.Mathlib.Omega.{arith}
+use lib.Count.{ones}
 use Rattle.words.specs.Cell.{unpackCell}
 use Rattle.words.specs.Choice.{pick}
 use Rattle.words.specs.Index.{index, Pair}
@@ -16,6 +17,8 @@ use Rattle.common.specs.Rules.{WriteStep, ReadStep}
 use Rattle.common.proofs.Effects.{word-cell}
 use Rattle.common.proofs.Lawful.{Lawful}
 use Rattle.protocol.specs.Table.{view}
+use Rattle.protocol.specs.Tickets.{bit}
+use Rattle.protocol.specs.NewTicket.{Walks}
 use Rattle.protocol.specs.State.{excludedBy}
 use Rattle.protocol.specs.InRange.{WriterInRange, StampInRange, ReaderInRange}
 use Rattle.protocol.specs.Write.{ticketOf, writeStep}
@@ -23,7 +26,7 @@ use Rattle.protocol.specs.Read.{stampIn, movedOn, looksThird, attemptSte
 use Rattle.protocol.specs.Rules.{freshCells, ticketRules}
 use Rattle.protocol.specs.Reference.{freshTable}
 use Rattle.protocol.proofs.Table.{fresh-length}
-use Rattle.protocol.proofs.Tickets.{first-le-ones}
+use Rattle.protocol.proofs.Walk.{walks-on, walk-low}
 use Rattle.protocol.proofs.Excluded.{ones-three, ones-own}
 use Rattle.protocol.proofs.Range.{writer-in, in-writer, reader-in, in-reader}
 use Rattle.protocol.proofs.Effects.{write-word, read-word}
@@ -33,14 +36,26 @@ stamp-low : (x : ℕ) → StampInRange (stampIn x)
 unfolding unpackCell
 stamp-low x = omega arith
 
--- The writer's turn.
-module _ (n : ℕ) (w : Writer) (t : List ℕ) (k : WriterInRange n w) (a : w .active ≡ true) (nh : n ≤ 16) where
+-- A write's new ticket.
+module _ (n : ℕ) (w : Writer) (k : WriterInRange n w) (a : w .active ≡ true) (nh : n ≤ 16) where
+  few : w .moved ≡ n → ones (excludedBy w) ≤ 3 * n + 2
+  few e = omega (arith, k .few a (omega arith))
+
   ticket-low : n ≤ w .moved → ticketOf n w < 64
   unfolding ticketOf
   ticket-low h =
       eq-ind (λ x. x < 64) (w .moved) n _ _
-      (λ e. omega (arith, first-le-ones 64 (excludedBy w), k .few a (omega arith))) (λ e. k .ticket-low a (omega arith))
+      (λ e. omega (arith, walk-low n (w .stamp .cur) (excludedBy w) nh (few e))) (λ e. k .ticket-low a (omega arith))
 
+  -- In every state that passes question 4, handed in or not, a write takes the ticket that the papers' sentence names.
+  pub ticket-walks : w .moved ≡ n → Walks n (w .stamp .cur) (λ x. bit (excludedBy w) x ≡ 0) (ticketOf n w)
+  unfolding ticketOf
+  ticket-walks e =
+      eq-ind (Walks n (w .stamp .cur) (λ x. bit (excludedBy w) x ≡ 0)) (w .moved) n _ _
+      (λ _. walks-on n (w .stamp .cur) (excludedBy w) nh (few e)) (λ q. absurd (q e))
+
+-- The writer's turn.
+module _ (n : ℕ) (w : Writer) (t : List ℕ) (k : WriterInRange n w) (a : w .active ≡ true) (nh : n ≤ 16) where
   turn-w : WriterInRange n (writeStep n w t .writer)
   unfolding writeStep
   turn-w =
@@ -53,9 +68,9 @@ module _ (n : ℕ) (w : Writer) (t : List ℕ) (k : WriterInRange n w) (a : w .a
         ticket-low = λ _ g. absurd (omega arith);
       })
       (λ h. lt-ind (λ x. WriterInRange n x) (w .moved + 1) (2 * n) _ _
-      (λ e. record { stamp-ok = k .stamp-ok; moved-low = λ _. e; few = λ _ g. absurd (omega arith); ticket-low = λ _ _. ticket-low h })
+      (λ e. record { stamp-ok = k .stamp-ok; moved-low = λ _. e; few = λ _ g. absurd (omega arith); ticket-low = λ _ _. ticket-low n w k a nh h })
       (λ e. record {
-        stamp-ok = record { cur-low = ticket-low h; prev-low = k .stamp-ok .cur-low };
+        stamp-ok = record { cur-low = ticket-low n w k a nh h; prev-low = k .stamp-ok .cur-low };
         moved-low = λ g. never (sym g);
         few = λ g. never (sym g);
         ticket-low = λ g. never (sym g);

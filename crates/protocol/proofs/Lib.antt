@@ -2,7 +2,7 @@ pub mod Table
 pub mod Tickets
 pub mod Excluded
 pub mod NewTicket
-pub mod Smallest
+pub mod Walk
 pub mod Range
 pub mod Effects
 pub mod Laws

@@ -1,18 +1,20 @@
--- The ticket rule: a new ticket is not barred, at most the number of barred ones, and the smallest such.
-use Prim.Native.Nat.{ℕ, zero, suc, _+_, _*_, _≤_, _<_}
+-- The book's new ticket is the one that the papers' sentence names; it is unbarred and, behind n cells, at most 3n+2.
+use Prim.Native.Nat.{ℕ, zero, suc, _+_, _-_, _*_, _≤_, _<_}
 use mathlib.Core.Path.{_≡_, refl, sym, ap, _∙_}
 use mathlib.Core.Logic.{_≢_, inl, inr}
 use mathlib.Core.Bool.{Bool, true, false, _||_}
 use mathlib.Core.List.{List, [], _∷_, List·Memᴰ, List·Memᴰ·head, List·Memᴰ·tail, List·Memᴰ·cases-cons}
-use native.Mathlib.Decide.{ℕ-discrete}
+use native.Mathlib.Decide.{ℕ-discrete, decLt}
 use native.Mathlib.Omega.{arith}
 use lib.ListN.{length}
-use lib.Dec.{eqb}
+use lib.Dec.{leb, eqb}
 use borrow.Author.Tests.{eq-eqb, eqb-true}
 use Rattle.words.specs.declared.stamp.Stamp.{Stamp}
 use Rattle.words.specs.declared.cell.Cell.{Cell}
-use Rattle.words.proofs.Laws.Choice.{pick-ind, never}
-use Rattle.protocol.specs.Reference.{isIn, firstFree, newTicket, excludedTickets}
+use Rattle.words.specs.Choice.{pick}
+use Rattle.words.proofs.Laws.Choice.{pick-ind, le-ind, never}
+use Rattle.protocol.specs.NewTicket.{Smallest, Above, Walks, on, round}
+use Rattle.protocol.specs.Reference.{isIn, firstFree, newTicket, excludedTickets, ticketAfter}
 
 -- the test, and membership
 in→mem : (t : ℕ) (b : List ℕ) → isIn t b ≡ true → List·Memᴰ t b
@@ -55,45 +57,116 @@ pigeon (suc k) b h =
     let d = drop-one k b (h k (omega arith)) in
     omega (arith, d .1, pigeon k (d .0) (λ t l. d .2 t (omega arith) (h t (omega arith))))
 
-record Free (b : List ℕ) (t : ℕ) : Type 0 where
-  pub out : isIn t b ≡ false
-  pub low : t ≤ length b
-  pub least : (k : ℕ) → k < t → isIn k b ≡ true
+-- What is unbarred up to 3n+2 counts, and in what way that is told does not.
+told-so : (n cur : ℕ) {P Q : ℕ → Type 0} → ((k : ℕ) → k ≤ 3 * n + 2 → P k → Q k) → {k : ℕ} → Above n cur P k → Above n cur Q k
+told-so n cur to {k} a = record { unbarred = to k (a .up-to) (a .unbarred); above = a .above; up-to = a .up-to }
 
-below : (b : List ℕ) (t : ℕ) → ((k : ℕ) → k < t → isIn k b ≡ true) → isIn t b ≡ true → (k : ℕ) → k < suc t → isIn k b ≡ true
-below b t h e k l = elim (ℕ-discrete k t) [ yes g ↦ rw g e | no g ↦ h k (omega arith) ]
+-- The sentence names one ticket.
+module _ (n cur : ℕ) {P Q : ℕ → Type 0} (to : (k : ℕ) → k ≤ 3 * n + 2 → P k → Q k) (back : (k : ℕ) → k ≤ 3 * n + 2 → Q k → P k) where
+  pub one-walk : {t u : ℕ} → t ≤ 3 * n + 2 → u ≤ 3 * n + 2 → Walks n cur P t → Walks n cur Q u → t ≡ u
+  one-walk {t} {u} _ _ (on x) (on y) = omega (arith, x .first u (told-so n cur back (y .has)), y .first t (told-so n cur to (x .has)))
+  one-walk _ _ (on x) (round none _) = absurd (none _ (told-so n cur to (x .has)))
+  one-walk _ _ (round none _) (on y) = absurd (none _ (told-so n cur back (y .has)))
+  one-walk {t} {u} h g (round _ x) (round _ y) = omega (arith, x .first u (back u g (y .has)), y .first t (to t h (x .has)))
 
-full : (b : List ℕ) (t : ℕ) → t ≡ length b → ((k : ℕ) → k < t → isIn k b ≡ true) → (c : Bool) → isIn t b ≡ c → c ≡ false
-full b t e h true q = absurd (omega (arith, pigeon (suc t) b (λ k l. in→mem k b (below b t h q k l))))
-full b t e h false q = refl
+module _ (n cur : ℕ) {P : ℕ → Type 0} where
+  -- How it is sought: up is the first unbarred one above cur, or past 3n+2; least is the smallest unbarred.
+  pub seek : (up least top : ℕ) → top ≡ 3 * n + 2 → (up ≤ 3 * n + 2 → Above n cur P up) → ((k : ℕ) → Above n cur P k → up ≤ k)
+      → Smallest P least → Walks n cur P (pick (leb up top) up least)
+  seek up least top e above first small =
+      le-ind (Walks n cur P) up top _ _ (λ h. on (record { has = above (omega arith); first = first }))
+      (λ h. round (λ k a. absurd (omega (arith, first k a, a .up-to))) small)
 
-first-free : (b : List ℕ) (t r : ℕ) → t + r ≡ length b → ((k : ℕ) → k < t → isIn k b ≡ true) → Free b (firstFree b t r)
+  pub walks-unbarred : {t : ℕ} → Walks n cur P t → P t
+  walks-unbarred (on x) = x .has .unbarred
+  walks-unbarred (round _ x) = x .has
+
+  -- It is at most 3n+2 where an unbarred one is.
+  pub walks-low : (k : ℕ) → P k → k ≤ 3 * n + 2 → {t : ℕ} → Walks n cur P t → t ≤ 3 * n + 2
+  walks-low k e h (on x) = x .has .up-to
+  walks-low k e h (round _ x) = omega (arith, x .first k e)
+
+-- The first of t, t + 1, .. outside the list, of r + 1 of them: those before it are in the list; it is not, unless it is the last.
+record Sought (b : List ℕ) (t r f : ℕ) : Type 0 where
+  pub from : t ≤ f
+  pub at-most : f ≤ t + r
+  pub passed : (k : ℕ) → t ≤ k → k < f → isIn k b ≡ true
+  pub stops : f < t + r → isIn f b ≡ false
+
+sought : (b : List ℕ) (t r : ℕ) → Sought b t r (firstFree b t r)
 unfolding firstFree
-first-free b t zero e h = record { out = full b t (omega arith) h (isIn t b) refl; low = omega arith; least = h }
-first-free b t (suc r) e h =
-    pick-ind (Free b) (isIn t b) _ _
-    (λ q. first-free b (suc t) r (omega arith) (below b t h q))
-    (λ q. record { out = q; low = omega arith; least = h })
+sought b t zero = record {
+  from = omega arith;
+  at-most = omega arith;
+  passed = λ k h g. absurd (omega arith);
+  stops = λ h. absurd (omega arith);
+}
+sought b t (suc r) =
+    pick-ind (Sought b t (suc r)) (isIn t b) _ _ (λ e. past e (sought b (suc t) r))
+    (λ e. record { from = omega arith; at-most = omega arith; passed = λ k h g. absurd (omega arith); stops = λ _. e })
+  where
+    past : isIn t b ≡ true → {f : ℕ} → Sought b (suc t) r f → Sought b t (suc r) f
+    past e z = record {
+      from = omega (arith, z .from);
+      at-most = omega (arith, z .at-most);
+      passed = λ k h g. elim (ℕ-discrete k t) [ yes q ↦ rw q e | no q ↦ z .passed k (omega arith) g ];
+      stops = λ h. z .stops (omega arith);
+    }
 
-free : (b : List ℕ) → Free b (newTicket b)
-unfolding newTicket
-free b = first-free b 0 (length b) (omega arith) (λ k h. absurd (omega arith))
+module _ (b : List ℕ) where
+  abbrev Free : ℕ → Type 0
+  Free k = isIn k b ≡ false
 
-pub newTicket-out : (b : List ℕ) → isIn (newTicket b) b ≡ false
-newTicket-out b = free b .out
+  -- The smallest outside: one of the list's length is.
+  abbrev least : ℕ
+  least = firstFree b 0 (length b)
 
-pub newTicket-low : (b : List ℕ) → newTicket b ≤ length b
-newTicket-low b = free b .low
+  below : Sought b 0 (length b) least
+  below = sought b 0 (length b)
 
-pub newTicket-least : (b : List ℕ) (k : ℕ) → k < newTicket b → isIn k b ≡ true
-newTicket-least b = free b .least
+  all-in : isIn least b ≡ true → (k : ℕ) → k < suc least → isIn k b ≡ true
+  all-in e k h = elim (ℕ-discrete k least) [ yes q ↦ rw q e | no q ↦ below .passed k (omega arith) (omega arith) ]
 
--- the first law, by membership
-pub newTicket-new : (b : List ℕ) → ¬ List·Memᴰ (newTicket b) b
-newTicket-new b m = never (sym (mem→in _ b m) ∙ newTicket-out b)
+  least-out : (c : Bool) → isIn least b ≡ c → c ≡ false
+  least-out true e = elim (decLt least (0 + length b)) [
+    | yes h ↦ sym e ∙ below .stops h
+    | no h ↦ absurd (omega (arith, pigeon (suc least) b (λ k g. in→mem k b (all-in e k g))))
+  ]
+  least-out false e = refl
 
--- So behind n cells the new ticket is at most 3n+2.
-pub barred-length : (s : Stamp) (cells : List Cell) → length (excludedTickets s cells) ≡ 2 + 3 * length cells
+  -- No number that was passed is outside.
+  first-of : {t r f : ℕ} → Sought b t r f → (k : ℕ) → t ≤ k → Free k → f ≤ k
+  first-of {t} {r} {f} q k h e = elim (decLt k f) [ yes g ↦ never (sym (q .passed k h g) ∙ e) | no g ↦ omega arith ]
+
+  smallest : Smallest Free least
+  smallest = record { has = least-out (isIn least b) refl; first = λ k e. first-of below k (omega arith) e }
+
+  -- From the first one above cur on, and past 3n+2.
+  walk : (n cur t r top : ℕ) → cur < t → t ≤ cur + 1 → 3 * n + 2 < t + r → top ≡ 3 * n + 2
+      → Walks n cur Free (pick (leb (firstFree b t r) top) (firstFree b t r) least)
+  walk n cur t r top above next far e =
+      let up = sought b t r in
+      seek n cur (firstFree b t r) least top e
+      (λ h. record { unbarred = up .stops (omega arith); above = omega (arith, up .from); up-to = h })
+      (λ k a. first-of up k (omega (arith, a .above)) (a .unbarred)) smallest
+
+  pub walks : (n cur : ℕ) → Walks n cur Free (newTicket n cur b)
+  unfolding newTicket
+  walks n cur = walk n cur _ _ _ (omega arith) (omega arith) (omega arith) (omega arith)
+
+  -- It is at most 3n+2 where no more are barred.
+  few-low : (n cur : ℕ) → length b ≤ 3 * n + 2 → newTicket n cur b ≤ 3 * n + 2
+  few-low n cur h = walks-low n cur least (smallest .has) (omega (arith, below .at-most)) (walks n cur)
+
+-- the rule's ticket is unbarred, by membership
+pub newTicket-new : (n cur : ℕ) (b : List ℕ) → ¬ List·Memᴰ (newTicket n cur b) b
+newTicket-new n cur b m = never (sym (mem→in _ b m) ∙ walks-unbarred n cur (walks b n cur))
+
+barred-length : (s : Stamp) (cells : List Cell) → length (excludedTickets s cells) ≡ 2 + 3 * length cells
 unfolding excludedTickets
 barred-length s [] = refl
 barred-length s (x ∷ cells) = omega (arith, barred-length s cells)
+
+-- behind n cells it is one of the 3n+3 names
+pub after-low : (n : ℕ) (s : Stamp) (cells : List Cell) → length cells ≤ n → ticketAfter n s cells ≤ 3 * n + 2
+after-low n s cells h = few-low (excludedTickets s cells) n (s .cur) (omega (arith, barred-length s cells))

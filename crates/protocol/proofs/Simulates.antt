@@ -15,7 +15,7 @@ use Rattle.common.proofs.Lawful.{Simulates}
 use Rattle.protocol.specs.Rules.{ticketRules}
 use Rattle.protocol.specs.Reference.{Operation, Turn, writeTurn, freshStamp, book}
 use Rattle.protocol.proofs.Range.{writer-in}
-use Rattle.protocol.proofs.Smallest.{bars}
+use Rattle.protocol.proofs.Walk.{bars}
 use Rattle.protocol.proofs.WriterRel.{WRel, WIs, turn-w-rel}
 use Rattle.protocol.proofs.ReaderRel.{RIs, rel-opened}
 use Rattle.protocol.proofs.ReaderTurn.{turn-r-rel}

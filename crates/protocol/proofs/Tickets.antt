@@ -5,8 +5,9 @@ use native.Mathlib.Omega.{arith}
 use native.Mathlib.Nat.{pow-suc, mul-comm, div-div-eq-div-mul, div-one, zero-div, one-mul}
 use lib.Bits.{bitOr, or-step, or-shr, or-zero-r}
 use lib.Count.{trailingZeros, under, ones, ones-step}
-use lib.Pow.{shl-exact}
-use Rattle.protocol.specs.Tickets.{bit, smallestOut, next}
+use lib.Pow.{shl-exact, pow-pos}
+use Rattle.words.proofs.Laws.Choice.{lt-ind, le-ind}
+use Rattle.protocol.specs.Tickets.{bit, smallestOut, next, through, walkOn}
 
 half-pow : (t : ℕ) → 2 ^ suc t / 2 ≡ 2 ^ t
 half-pow t = rw pow-suc (omega arith)
@@ -90,6 +91,32 @@ bit-other zero (suc t) n = rw bit-suc (zero-bit t)
 bit-other (suc u) zero n = rw (pow-suc, div-one) (omega arith)
 bit-other (suc u) (suc t) n = rw (bit-suc, half-pow) (bit-other u t (λ e. n (ap suc e)))
 
+-- the tickets below k
+half-low : (k : ℕ) → (2 ^ suc k - 1) / 2 ≡ 2 ^ k - 1
+half-low k = rw pow-suc (omega arith)
+
+odd : (k : ℕ) → (2 ^ suc k - 1) % 2 ≡ 1
+odd k = rw pow-suc (omega (arith, pow-pos k))
+
+low-in : (k t : ℕ) → t < k → bit (2 ^ k - 1) t ≡ 1
+low-in zero t h = absurd (omega arith)
+low-in (suc k) zero h = rw div-one (odd k)
+low-in (suc k) (suc t) h = rw (bit-suc, half-low) (low-in k t (omega arith))
+
+low-out : (k t : ℕ) → k ≤ t → bit (2 ^ k - 1) t ≡ 0
+low-out zero t h = rw zero-div
+low-out (suc k) zero h = absurd (omega arith)
+low-out (suc k) (suc t) h = rw (bit-suc, half-low) (low-out k t (omega arith))
+
+-- the tickets up to u
+pub through-in : (u t : ℕ) → t < 63 → t ≤ u → bit (through u) t ≡ 1
+unfolding through
+through-in u t h g = lt-ind (λ x. bit x t ≡ 1) u 63 _ _ (λ _. low-in (suc u) t (omega arith)) (λ _. low-in 64 t (omega arith))
+
+pub through-out : (u t : ℕ) → t < 63 → u < t → bit (through u) t ≡ 0
+unfolding through
+through-out u t h g = lt-ind (λ x. bit x t ≡ 0) u 63 _ _ (λ _. low-out (suc u) t (omega arith)) (λ q. absurd (omega arith))
+
 ones-cons : (x m : ℕ) → m < 2 → ones (x * 2 + m) ≡ m + ones x
 ones-cons x m h =
     let a : (x * 2 + m) % 2 ≡ m = omega arith in
@@ -110,6 +137,9 @@ ones-or s (suc t) =
 pub one-shifted : (t : ℕ) → t < 63 → 1 * 2 ^ t % 2 ^ 64 ≡ 2 ^ t
 one-shifted t h = shl-exact 1 t 64 (omega arith) (omega arith) ∙ one-mul (2 ^ t)
 
+pub two-shifted : (t : ℕ) → t < 63 → 2 * 2 ^ t % 2 ^ 64 ≡ 2 ^ suc t
+two-shifted t h = shl-exact 2 t 64 (omega arith) (omega arith) ∙ rw pow-suc (omega arith)
+
 pub out-small : (k s : ℕ) → smallestOut k s ≤ k
 unfolding smallestOut
 out-small zero s = zero-le
@@ -118,3 +148,7 @@ out-small (suc k) s = over-le-suc (s % 2) _ k (out-small k (s / 2))
     over-le-suc : (d n m : ℕ) → n ≤ m → next d n ≤ suc m
     over-le-suc zero n m h = zero-le
     over-le-suc (suc d) n m h = omega arith
+
+pub walk-small : (top cur s : ℕ) → walkOn top cur s ≤ 64
+unfolding walkOn
+walk-small top cur s = le-ind (λ x. x ≤ 64) _ top _ _ (λ _. out-small 64 _) (λ _. out-small 64 s)

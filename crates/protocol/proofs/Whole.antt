@@ -41,9 +41,9 @@ module _ (n v : ℕ) (t l : List ℕ) (cs : List Call) (e : setUpOf ticketRules 
   rows-kept = full ticketRules book WIs RIs lawful simulates n v 0 (omega arith) t l cs e
 
   next-ticket : (u : ℕ) (cells : List Cell) → b .op 0 ≡ open-with u n cells
-      → NewTicket n (next ticketRules n v 0 t l cs (step 0) .table) (excludedTickets (b .stamp 0) cells)
+      → NewTicket n (b .stamp 0 .cur) (next ticketRules n v 0 t l cs (step 0) .table) (excludedTickets (b .stamp 0) cells)
   next-ticket u cells q =
-      subst (λ (k : ℕ). NewTicket k (next ticketRules n v 0 t l cs (step 0) .table) (excludedTickets (b .stamp 0) cells)) n-kept
+      subst (λ (k : ℕ). NewTicket k (b .stamp 0 .cur) (next ticketRules n v 0 t l cs (step 0) .table) (excludedTickets (b .stamp 0) cells)) n-kept
       (first-ticket _ _ (r .state) (r .table) (r .log) b (z .runs .good) (z .runs .rel) rows-kept u n cells q (sym n-kept))
 
   pub whole : v < 2 ^ 32 → LowCalls cs → Whole n v t l cs

@@ -5,28 +5,26 @@ use mathlib.Core.List.{List, [], _∷_, _++_}
 use mathlib.Core.Bool.{true, false}
 use native.Mathlib.Omega.{arith}
 use lib.ListN.{length, length-set, length-append}
-use lib.Dec.{eqb}
 use lib.Count.{ones}
-use borrow.Author.Tests.{eq-eqb}
 use Rattle.words.specs.declared.stamp.Stamp.{Stamp}
 use Rattle.words.specs.declared.cell.Cell.{Cell}
 use Rattle.words.specs.Index.{Pair}
-use Rattle.words.proofs.Laws.Choice.{pick-yes, lt-two, eq-ind}
+use Rattle.words.proofs.Laws.Choice.{lt-two, eq-ind}
 use Rattle.common.specs.declared.Writer.{Writer}
 use Rattle.common.specs.Rules.{WriteStep}
 use Rattle.common.specs.Book.{idle, open-with}
 use Rattle.common.proofs.Lawful.{WTurnRel}
 use Rattle.common.proofs.Places.{view-front, store-front}
 use Rattle.protocol.specs.Table.{view, store, plain}
-use Rattle.protocol.specs.Tickets.{withTicket, smallestOut}
+use Rattle.protocol.specs.Tickets.{withTicket, walkOn}
 use Rattle.protocol.specs.State.{excludedBy}
 use Rattle.protocol.specs.InRange.{WriterInRange}
 use Rattle.protocol.specs.Write.{writerReads, ticketOf, writeStep}
-use Rattle.protocol.specs.Reference.{Operation, Turn, newTicket, excludedTickets, writeTurn, book}
+use Rattle.protocol.specs.Reference.{Operation, Turn, ticketAfter, writeTurn, book}
 use Rattle.protocol.specs.Rules.{ticketRules}
 use Rattle.protocol.proofs.Table.{places}
 use Rattle.protocol.proofs.ReaderRel.{RIs}
-use Rattle.protocol.proofs.Smallest.{bars, bars-more, New, new-ticket}
+use Rattle.protocol.proofs.Walk.{bars, bars-more, new-ticket}
 
 pub record WRel (n : ℕ) (w : Writer) (st : Stamp) (v m : ℕ) (cells : List Cell) : Type 0 where
   pub active-is : w .active ≡ true
@@ -34,7 +32,7 @@ pub record WRel (n : ℕ) (w : Writer) (st : Stamp) (v m : ℕ) (cells : List Ce
   pub value-is : w .value ≡ v
   pub length-is : m ≤ n → length cells ≡ m
   pub excluded-is : m ≤ n → w .excluded ≡ bars 0 cells
-  pub ticket-is : n < m → w .ticket ≡ newTicket (excludedTickets st cells)
+  pub ticket-is : n < m → w .ticket ≡ ticketAfter n st cells
 
 abbrev pub WriterRel : ℕ → Writer → Stamp → Operation → Type 0
 WriterRel n w st idle = w .active ≡ false
@@ -54,16 +52,15 @@ module _ (n : ℕ) (nl : 1 ≤ n) (nh : n ≤ 16) (T X : List ℕ) (size : lengt
   m = w .moved
 
   -- the new ticket, when it is taken
-  taken : m ≡ n → New (excludedTickets st cells) (smallestOut 64 (excludedBy w))
+  taken : m ≡ n → walkOn (3 * n + 2) (w .stamp .cur) (excludedBy w) ≡ ticketAfter n st cells
   taken e =
       let h = ok .few (R .active-is) (omega arith) in
       let q : excludedBy w ≡ withTicket (withTicket (bars 0 cells) (st .cur)) (st .prev) = rw (R .excluded-is (omega arith), stamp-is) in
-      rw q
-      (new-ticket st cells (omega (arith, R .length-is (omega arith))) (omega (arith, ap ones q, R .length-is (omega arith))))
+      rw (q, stamp-is) (new-ticket n st cells nh (R .length-is (omega arith) ∙ e) (omega (arith, ap ones q)))
 
-  ticket : n ≤ m → ticketOf n w ≡ newTicket (excludedTickets st cells)
+  ticket : n ≤ m → ticketOf n w ≡ ticketAfter n st cells
   unfolding ticketOf
-  ticket h = eq-ind (λ x. x ≡ newTicket (excludedTickets st cells)) (w .moved) n _ _ (λ e. taken e .is-new) (λ e. R .ticket-is (omega arith))
+  ticket h = eq-ind (λ x. x ≡ ticketAfter n st cells) (w .moved) n _ _ taken (λ e. R .ticket-is (omega arith))
 
   reads : m < n
       → TurnRel n X (record { writer = writerReads n w (T ++ X); table = T ++ X })
@@ -90,7 +87,7 @@ module _ (n : ℕ) (nl : 1 ≤ n) (nh : n ≤ 16) (T X : List ℕ) (size : lengt
 
   table : (h : n ≤ m)
       → store n (T ++ X) 0 (m - n + 1) (plain (w .value) (record { cur = ticketOf n w; prev = w .stamp .cur }))
-      ≡ store n T 0 (m - n + 1) (plain v (record { cur = newTicket (excludedTickets st cells); prev = st .cur })) ++ X
+      ≡ store n T 0 (m - n + 1) (plain v (record { cur = ticketAfter n st cells; prev = st .cur })) ++ X
   table h = rw (ticket h, R .value-is, stamp-is) (store-front (places n) T X size 0 (m - n + 1) (to-reader h) _)
 
   turn : TurnRel n X (writeStep n w (T ++ X)) (writeTurn n T st v m cells)
@@ -130,10 +127,3 @@ module _ (n : ℕ) (nl : 1 ≤ n) (nh : n ≤ 16) (T X : List ℕ) (size : lengt
   turn-w-rel =
       subst (λ (k : ℕ). TurnRel n X (writeStep n w (T ++ X)) (writeTurn n T st v k cells)) (R .moved-is)
       (turn n nl nh T X size w st v cells same-moved stamp-is ok)
-
-  -- A new ticket is not barred, and at most 3n + 2.
-  pub taken-is : m ≡ n → New (excludedTickets st cells) (ticketOf n w)
-  unfolding ticketOf
-  taken-is e =
-      rw (pick-yes (eqb (w .moved) n) (smallestOut 64 (excludedBy w)) (w .ticket) (eq-eqb (w .moved) n (R .moved-is ∙ e)))
-      (taken n nl nh T X size w st v cells same-moved stamp-is ok (R .moved-is ∙ e))

@@ -1,5 +1,6 @@
 pub mod Table
 pub mod Tickets
+pub mod NewTicket
 pub mod State
 pub mod InRange
 pub mod Write

@@ -30,9 +30,11 @@ unfoldable pub firstFree : List ℕ → ℕ → ℕ → ℕ
 firstFree b t zero = t
 firstFree b t (suc k) = pick (isIn t b) (firstFree b (suc t) k) t
 
--- the ticket rule: "the smallest that is not barred"
-unfoldable pub newTicket : List ℕ → ℕ
-newTicket b = firstFree b 0 (length b)
+-- the ticket rule: "the smallest unbarred one above the writer's cur and up to 3n+2, and if there is none above, the smallest unbarred"
+unfoldable pub newTicket : ℕ → ℕ → List ℕ → ℕ
+newTicket n cur b =
+    let t = firstFree b (suc cur) (3 * n + 2 - cur) in
+    pick (leb t (3 * n + 2)) t (firstFree b 0 (length b))
 
 -- "Barred are the prev, announced cur and announced prev of each, and the writer's own cur and prev. None bars nothing."
 -- A none, 63, in the list bars nothing: it is no ticket.
@@ -40,19 +42,23 @@ unfoldable pub excludedTickets : Stamp → List Cell → List ℕ
 excludedTickets s [] = s .cur ∷ s .prev ∷ []
 excludedTickets s (c ∷ cs) = c .stamp .prev ∷ c .announced .cur ∷ c .announced .prev ∷ excludedTickets s cs
 
+-- the ticket of a write behind the one with stamp s, by the cells it has read
+abbrev pub ticketAfter : ℕ → Stamp → List Cell → ℕ
+ticketAfter n s cells = newTicket n (s .cur) (excludedTickets s cells)
+
 -- "New stamp: (that ticket, old cur)."
-abbrev pub newStamp : Stamp → List Cell → Stamp
-newStamp s cells = record { cur = newTicket (excludedTickets s cells); prev = s .cur }
+abbrev pub newStamp : ℕ → Stamp → List Cell → Stamp
+newStamp n s cells = record { cur = ticketAfter n s cells; prev = s .cur }
 
 -- "Sub-steps 1..n read the readers' cells to the writer", "Sub-steps n+1..2n store v with the new stamp to readers 1..n",
 -- "A write ends at its sub-step 2n."
 unfoldable pub writeTurn : ℕ → List ℕ → Stamp → ℕ → ℕ → List Cell → Turn
 writeTurn n t s v m cells =
-    let t′ = store n t 0 (m - n + 1) (record { value = v; stamp = newStamp s cells; announced = none }) in
+    let t′ = store n t 0 (m - n + 1) (record { value = v; stamp = newStamp n s cells; announced = none }) in
     pick (ltb m n)
     (record { op = open-with v (m + 1) (cells ++ (view n t (m + 1) 0 ∷ [])); stamp = s; table = t; value = 0 })
     (pick (ltb (m + 1) (2 * n)) (record { op = open-with v (m + 1) cells; stamp = s; table = t′; value = 0 })
-    (record { op = idle; stamp = newStamp s cells; table = t′; value = 0 }))
+    (record { op = idle; stamp = newStamp n s cells; table = t′; value = 0 }))
 
 -- a cell that shows nothing
 abbrev pub void : Cell

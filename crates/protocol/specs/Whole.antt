@@ -11,13 +11,17 @@ use Rattle.common.specs.Moves.{Moves}
 use Rattle.common.specs.Book.{open-with}
 use Rattle.common.specs.Whole.{modelOf, still, next, AsBook}
 use Rattle.protocol.specs.Table.{view}
+use Rattle.protocol.specs.NewTicket.{Walks}
 use Rattle.protocol.specs.Rules.{ticketRules}
 use Rattle.protocol.specs.Reference.{Model, isIn, excludedTickets, failed, book}
 
--- "A new ticket is the cur that a write's sub-step n+1 stores": in the table t behind it, where the tickets of the list were barred.
-pub record NewTicket (n : ℕ) (t : List ℕ) (bars : List ℕ) : Type 0 where
+-- "A new ticket is the cur that a write's sub-step n+1 stores": in the table t behind it, where cur was the writer's, and the tickets of
+-- the list were barred.
+pub record NewTicket (n cur : ℕ) (t bars : List ℕ) : Type 0 where
   pub not-excluded : isIn (view n t 0 1 .stamp .cur) bars ≡ false
   pub one-of : view n t 0 1 .stamp .cur ≤ 3 * n + 2
+  -- (02) "the smallest unbarred one above the writer's cur and up to 3n+2, and if there is none above, the smallest unbarred"
+  pub walks : Walks n cur (λ k. isIn k bars ≡ false) (view n t 0 1 .stamp .cur)
 
 module _ (n v : ℕ) (t l : List ℕ) (cs : List Call) where
   abbrev model : Model
@@ -33,4 +37,4 @@ module _ (n v : ℕ) (t l : List ℕ) (cs : List Call) where
         → Moves (next ticketRules n v 0 t l cs (step p) .answer) (still book n v 0 l cs p) m (pick (failed n m cells) (3 * n + 6) (2 * n + 3))
     -- "Every new ticket is an unbarred one of the 3n+3 names."
     pub new-ticket : (u : ℕ) (cells : List Cell) → model .op 0 ≡ open-with u n cells
-        → NewTicket n (next ticketRules n v 0 t l cs (step 0) .table) (excludedTickets (model .stamp 0) cells)
+        → NewTicket n (model .stamp 0 .cur) (next ticketRules n v 0 t l cs (step 0) .table) (excludedTickets (model .stamp 0) cells)

@@ -8,7 +8,7 @@ use Rattle.words.specs.Choice.{pick}
 use Rattle.common.specs.declared.Writer.{Writer}
 use Rattle.common.specs.Rules.{WriteStep}
 use Rattle.protocol.specs.Table.{view, store, plain}
-use Rattle.protocol.specs.Tickets.{withCell, smallestOut}
+use Rattle.protocol.specs.Tickets.{withCell, walkOn}
 use Rattle.protocol.specs.State.{excludedBy}
 
 -- "Sub-steps 1..n read the readers' cells to the writer, readers 1..n."
@@ -23,9 +23,9 @@ writerReads n w t = record {
   count = w .count;
 }
 
--- "The new ticket, taken at sub-step n+1 before its store, is the smallest that is not barred."
+-- "The new ticket, taken at sub-step n+1 before its store", walks on from the writer's cur.
 unfoldable pub ticketOf : ℕ → Writer → ℕ
-ticketOf n w = pick (eqb (w .moved) n) (smallestOut 64 (excludedBy w)) (w .ticket)
+ticketOf n w = pick (eqb (w .moved) n) (walkOn (3 * n + 2) (w .stamp .cur) (excludedBy w)) (w .ticket)
 
 -- "New stamp: (that ticket, old cur)."
 abbrev pub newStamp : ℕ → Writer → Stamp

@@ -1,6 +1,6 @@
 -- What a session lends, and calls that it repeats.
-use Prim.Native.Nat.{ℕ}
-use mathlib.Core.List.{List}
+use Prim.Native.Nat.{ℕ, zero, suc}
+use mathlib.Core.List.{List, [], _++_}
 use lib.ListN.{replicate}
 use Rattle.common.specs.Calls.{Call, step}
 
@@ -14,3 +14,8 @@ paper k = replicate k 55
 -- k sub-steps of processor p
 abbrev pub times : ℕ → ℕ → List Call
 times k p = replicate k (step p)
+
+-- a list k times over
+abbrev pub many : {A : Type 0} → ℕ → List A → List A
+many zero l = []
+many (suc k) l = l ++ many k l

@@ -1,5 +1,6 @@
 pub mod Session
 pub mod Lent
+pub mod Walk
 pub mod Counted
 pub mod Table
 pub mod TwoChoices

@@ -6,6 +6,7 @@ use lib.Dec.{eqb}
 use lib.ListN.{length, take}
 use Rattle.words.specs.declared.cell.Cell.{Cell}
 use Rattle.words.specs.declared.row.Row.{Row}
+use Rattle.words.specs.declared.stamp.Stamp.{Stamp}
 use Rattle.words.specs.Choice.{pick}
 use Rattle.words.specs.Stamp.{same}
 use Rattle.words.specs.Cell.{packCell, unpackCell}
@@ -14,18 +15,24 @@ use Rattle.history.specs.History.{historyOf}
 use Rattle.history.specs.Chosen.{chosen, readsFrom, regular, uninverted}
 use Rattle.judge.specs.Answer.{answerOf, orderOf}
 use Rattle.common.specs.declared.Answer.{Answer}
+use Rattle.common.specs.declared.Writer.{Writer}
 use Rattle.common.specs.Answers.{numberOf, subStepOf}
 use Rattle.common.specs.Calls.{Call}
 use Rattle.common.specs.Rules.{Rules}
 use Rattle.common.specs.SetUp.{setUpOf}
 use Rattle.common.specs.Register.{ranFrom}
 use Rattle.common.specs.Book.{Telling, freshModel, kept}
+use Rattle.protocol.specs.Tickets.{withTicket}
+use Rattle.protocol.specs.Write.{ticketOf}
 use Rattle.protocol.specs.Rules.{ticketRules}
-use Rattle.protocol.specs.Reference.{book as ticketBook}
+use Rattle.protocol.specs.Reference.{newTicket, book as ticketBook}
 use Rattle.counted.specs.declared.Cell.{Cell as CountedCell}
 use Rattle.counted.specs.Cell.{packCell as packCounted, unpackCell as unpackCounted}
 use Rattle.counted.specs.Rules.{countedRules}
 use Rattle.counted.specs.Reference.{book as countedBook}
+
+abbrev pub stamp : ℕ → ℕ → Stamp
+stamp c p = record { cur = c; prev = p }
 
 -- the first register; the counted one, with the fresh stamp that is handed over
 pub data Register : Type 0 where
@@ -44,6 +51,9 @@ pub data Session : Type 0 where
   -- a log that is tried with a write that each of its reads may stand for, by begin rows (report CS-R8704): whether it is regular by this
   -- choice, and whether no two reads are inverted
   tried : (log : List ℕ) (choice : List (ℕ × ℕ)) (isRegular isUninverted : Bool) → Session
+  -- the new ticket of a write in a register of n readers, in a state that is handed in: the writer's own stamp, and the tickets that the
+  -- cells it has read bar
+  taken : (n : ℕ) (own : Stamp) (barred : List ℕ) (ticket : ℕ) → Session
   -- a set-up of n readers with start reading v on a lent table and log, refused by its number
   denied : (g : Register) (n v : ℕ) (table log : List ℕ) (number : ℕ) → Session
   -- an accepted one and the calls behind it; their answers as numbers, and the whole table and log after the last
@@ -63,6 +73,23 @@ sameList (x ∷ xs) (y ∷ ys) = eqb x y && sameList xs ys
 
 abbrev sameBool : Bool → Bool → Bool
 sameBool a b = pick a b (not b)
+
+-- a set of tickets
+abbrev setOf : List ℕ → ℕ
+setOf [] = 0
+setOf (t ∷ rest) = withTicket (setOf rest) t
+
+-- a write before its first store
+abbrev beforeStore : ℕ → Stamp → List ℕ → Writer
+beforeStore n own barred = record {
+  active = true;
+  moved = n;
+  value = 0;
+  excluded = setOf barred;
+  ticket = 63;
+  stamp = own;
+  count = 0;
+}
 
 -- an answer as a number: 0 accepted, m for sub-step m, 100 + k for refusal k
 abbrev told : Answer → ℕ
@@ -109,6 +136,8 @@ holds (tried log choice isRegular isUninverted) =
     let h = historyOf log in
     let f = chosen choice in
     readsFrom h f && (sameBool (regular h f) isRegular && sameBool (uninverted h f) isUninverted)
+holds (taken n own barred t) =
+    eqb (ticketOf n (beforeStore n own barred)) t && eqb (newTicket n (own .cur) (own .cur ∷ own .prev ∷ barred)) t
 holds (denied g n v t l number) =
     let o = setUpOf (rulesFor g) n v (firstOf g) t l in
     eqb (told (o .answer)) (100 + number) && (sameList (o .table) t && sameList (o .log) l)

@@ -8,12 +8,10 @@ use Rattle.words.specs.declared.row.Row.{Row}
 use Rattle.words.specs.Stamp.{none}
 use Rattle.words.specs.Row.{packRow}
 use Rattle.common.specs.Calls.{write, read, step}
-use Rattle.sessions.specs.Session.{Session, tickets, cell, row, judged, tried, denied, run}
+use Rattle.sessions.specs.Session.{Session, stamp, tickets, cell, row, judged, tried, denied, run}
 use Rattle.sessions.specs.Lent.{lent, paper, times}
+use Rattle.sessions.specs.Walk.{walkSessions}
 use Rattle.sessions.specs.Counted.{countedSessions}
-
-abbrev stamp : ℕ → ℕ → Stamp
-stamp c p = record { cur = c; prev = p }
 
 -- a cell that announces nothing
 abbrev shows : ℕ → Stamp → Cell
@@ -64,16 +62,16 @@ table =
     cell (shows 7 (stamp 0 1)) 0x00000007001FFF00
     ∷ cell (shows 0 none) 0x00000000FFFFFF00
     ∷ run tickets 1 7 (lent 4) (paper 3) [] [] (0x00000007001FFF00 ∷ 0x00000000FFFFFF00 ∷ 77 ∷ 77 ∷ []) (0x5010000000000007 ∷ 55 ∷ 55 ∷ [])
-    -- "Writes with no read, n=1: stamps (2,0), (1,2), (0,1)."
+    -- "The session of three writes now gives stamps (2,0), (3,2), (4,3)." (document 02, card 2)
     ∷ run tickets 1 7 (lent 4) (paper 8) (write 9 ∷ times 2 0) (0 ∷ 1 ∷ 2 ∷ [])
     (0x00000009080FFF00 ∷ 0x00000000FFFFFF00 ∷ 77 ∷ 77 ∷ [])
     (0x5010000000000007 ∷ 0x1000000000000009 ∷ 0x2000000000000000 ∷ 55 ∷ 55 ∷ 55 ∷ 55 ∷ 55 ∷ [])
     ∷ run tickets 1 7 (lent 4) (paper 8) (write 9 ∷ times 2 0 ++ write 8 ∷ times 2 0) (0 ∷ 1 ∷ 2 ∷ 0 ∷ 1 ∷ 2 ∷ [])
-    (0x00000008042FFF00 ∷ 0x00000000FFFFFF00 ∷ 77 ∷ 77 ∷ [])
+    (0x000000080C2FFF00 ∷ 0x00000000FFFFFF00 ∷ 77 ∷ 77 ∷ [])
     (0x5010000000000007 ∷ 0x1000000000000009 ∷ 0x2000000000000000 ∷ 0x1000000000000008 ∷ 0x2000000000000000 ∷ 55 ∷ 55 ∷ 55 ∷ [])
     ∷ run tickets 1 7 (lent 4) (paper 8) (write 9 ∷ times 2 0 ++ write 8 ∷ times 2 0 ++ write 7 ∷ times 2 0)
     (0 ∷ 1 ∷ 2 ∷ 0 ∷ 1 ∷ 2 ∷ 0 ∷ 1 ∷ 2 ∷ [])
-    (0x00000007001FFF00 ∷ 0x00000000FFFFFF00 ∷ 77 ∷ 77 ∷ [])
+    (0x00000007103FFF00 ∷ 0x00000000FFFFFF00 ∷ 77 ∷ 77 ∷ [])
     (0x5010000000000007
     ∷ 0x1000000000000009
     ∷ 0x2000000000000000
@@ -229,5 +227,5 @@ table =
     (105 ∷ 105 ∷ 105 ∷ 108 ∷ 0 ∷ 106 ∷ 1 ∷ 2 ∷ 108 ∷ [])
     (0x00000009080FFF00 ∷ 0x00000000FFFFFF00 ∷ 77 ∷ 77 ∷ [])
     (0x5010000000000007 ∷ 0x1000000000000009 ∷ 0x2000000000000000 ∷ 55 ∷ 55 ∷ [])
-    -- the counted register (document 02, card 3)
-    ∷ countedSessions
+    -- tickets that walk (document 02, card 2), and the counted register (card 3)
+    ∷ walkSessions ++ countedSessions

@@ -5,6 +5,7 @@ use super::same::marks;
 use super::scripts::try_calls;
 use super::set_ups::print_set_up;
 use super::text::print;
+use super::text::print_cells;
 use super::text::print_rows;
 use super::text::print_with;
 use common::State;
@@ -51,11 +52,6 @@ fn try_accepted() {
     try_set_up(2, 4294967294, 4, 3);
     try_set_up(16, 5, 256, 4096);
     try_set_up(16, 4294967295, 306, 3);
-}
-
-fn print_cells(table: &[u64]) {
-    print(b"; cells");
-    print_rows(table);
 }
 
 // The used rows, and what the judge says of them.

@@ -7,6 +7,7 @@ mod calls; // begins and sub-steps, each watched
 mod scripts; // lists of calls: questions 5 to 8
 mod heads; // question 4 of either register: sizes and rows
 mod range; // question 4: words moved and tickets
+mod tickets; // the new ticket in states handed in
 mod counted_calls; // the counted register: set-up, its sessions, and lists of calls
 mod counted_range; // question 4 of the counted register: words moved and stamps
 mod logs; // the judge: question 9
@@ -19,6 +20,7 @@ fn main() {
     set_ups::try_all();
     scripts::try_all();
     range::try_all();
+    tickets::try_all();
     counted_calls::try_all();
     counted_range::try_all();
     logs::try_all();

@@ -20,7 +20,7 @@ fn fresh() -> State {
 }
 
 // The state after W 9, R 1, S 0 and S 1.
-fn begun() -> State {
+pub(crate) fn begun() -> State {
     let calls = [
         0x1_0000_0009u64,
         0x2_0000_0001,

@@ -24,6 +24,11 @@ pub(crate) fn print_rows(rows: &[u64]) {
     }
 }
 
+pub(crate) fn print_cells(table: &[u64]) {
+    print(b"; cells");
+    print_rows(table);
+}
+
 // A call's answer.
 pub(crate) fn print_answer(answer: Answer) {
     match answer {

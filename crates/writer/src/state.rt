@@ -1,5 +1,5 @@
 // A fresh writer, one that begins a write, its tickets, and question 4 of it.
-use super::tickets::smallest_out;
+use super::tickets::walk_on;
 use super::tickets::with_ticket;
 use common::Writer;
 use words::stamp::Stamp;
@@ -50,7 +50,8 @@ pub fn ticket_of(w: Writer, n: u32) -> u8
     ensures { λ r. ⌜ r ≡ ticketOf n w ⌝ }
 {
     if w.moved as u32 == n {
-        return smallest_out(excluded_by(w)) as u8;
+        let top = 3 * n + 2;
+        return walk_on(excluded_by(w), w.stamp.cur, top) as u8;
     }
     w.ticket
 }

@@ -13,7 +13,7 @@ use Rattle.common.specs.Book.{idle, open-with}
 use Rattle.common.proofs.Places.{Size}
 use Rattle.common.proofs.Follows.{value-in}
 use Rattle.protocol.specs.Table.{view}
-use Rattle.protocol.specs.Reference.{Operation, Model, newTicket, excludedTickets, nth, agree, Result, resultOf, shown}
+use Rattle.protocol.specs.Reference.{Operation, Model, excludedTickets, ticketAfter, nth, agree, Result, resultOf, shown}
 use Rattle.protocol.proofs.Table.{places}
 use Rattle.protocol.proofs.Atomic.Cells.{stamp-of, back-of, cell-of}
 
@@ -88,7 +88,7 @@ module _ (n : ℕ) (c val : ℕ → ℕ) where
     pub ahead : K ≡ suc D
     pub wk-is : wk ≡ 0
     pub done : (i : ℕ) → i < m - n → w i ≡ K
-    pub ticket : c K ≡ newTicket (excludedTickets (stamp-of c D) cells)
+    pub ticket : c K ≡ ticketAfter n (stamp-of c D) cells
     pub value-is : val K ≡ v
 
   abbrev pub WriteSim : St → Operation → Type 0

@@ -16,8 +16,8 @@ use Rattle.words.proofs.Laws.Update.{upd-same, upd-other}
 use Rattle.common.specs.Book.{idle, open-with, isOpen, begun, begins, movesWrite, movesRead, told}
 use Rattle.common.specs.Calls.{Call, write, read, step, LowCall, LowCalls}
 use Rattle.common.proofs.Follows.{All, gains, gains-all}
-use Rattle.protocol.specs.Reference.{Operation, Model, Turn, newTicket, excludedTickets, writeTurn, book, Told}
-use Rattle.protocol.proofs.NewTicket.{newTicket-low, barred-length}
+use Rattle.protocol.specs.Reference.{Operation, Model, Turn, ticketAfter, writeTurn, book, Told}
+use Rattle.protocol.proofs.NewTicket.{after-low}
 
 -- a ticket taken, and its write's value
 pub record Taken : Type 0 where
@@ -35,7 +35,7 @@ atBegin v = []
 
 -- A write takes its ticket at its sub-step n + 1.
 abbrev pub atStep : ℕ → Model → ℕ → ℕ → List Cell → List Taken
-atStep n b v m cells = pick (eqb m n) (record { ticket = newTicket (excludedTickets (b .stamp 0) cells); value = v } ∷ []) []
+atStep n b v m cells = pick (eqb m n) (record { ticket = ticketAfter n (b .stamp 0) cells; value = v } ∷ []) []
 
 abbrev pub tickets : ℕ → ℕ → Model → List Call → List Taken
 tickets n len = gains book n len atBegin (atStep n)
@@ -84,7 +84,7 @@ module _ (n : ℕ) (few : n ≤ 16) where
   step-small : (b : Model) (v m : ℕ) (cells : List Cell) → Lens (open-with v m cells) → All Small (atStep n b v m cells)
   step-small b v m cells h =
       eq-ind (All Small) m n _ _
-      (λ _. ((omega (arith, newTicket-low (excludedTickets (b .stamp 0) cells), barred-length (b .stamp 0) cells, h .1), h .2), tt)) (λ _. tt)
+      (λ _. ((omega (arith, after-low n (b .stamp 0) cells (h .1)), h .2), tt)) (λ _. tt)
 
   pub tickets-low : (len : ℕ) (b : Model) (cs : List Call) → LowCalls cs → b .op 0 ≡ idle → All Small (tickets n len b cs)
   tickets-low len b cs low e =

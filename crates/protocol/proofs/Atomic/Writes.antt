@@ -20,7 +20,7 @@ use Rattle.numbered.proofs.Log.{log-w-begins, log-look, log-ticket, log-w-ends,
 use Rattle.common.specs.Book.{idle, open-with, entered}
 use Rattle.common.proofs.Places.{view-same, view-other, size-store}
 use Rattle.protocol.specs.Table.{view, store, plain}
-use Rattle.protocol.specs.Reference.{Model, Turn, newTicket, excludedTickets, newStamp, writeTurn}
+use Rattle.protocol.specs.Reference.{Model, Turn, excludedTickets, ticketAfter, newStamp, writeTurn}
 use Rattle.protocol.proofs.NewTicket.{newTicket-new}
 use Rattle.protocol.proofs.Table.{places}
 use Rattle.protocol.proofs.Atomic.Cells.{Low, stamp-of, back-of, cell-of, stamp-cur, stamp-prev, fits-cell}
@@ -89,7 +89,7 @@ module _ (n : ℕ) (pos : 1 ≤ n) (c val : ℕ → ℕ) (low : Low c val) where
   -- What its sub-steps leave.
   module _ (b : Model) (v m : ℕ) (cells : List Cell) where
     abbrev new : Stamp
-    new = newStamp (b .stamp 0) cells
+    new = newStamp n (b .stamp 0) cells
 
     abbrev stored : List ℕ
     stored = store n (b .table) 0 (m - n + 1) (plain v new)
@@ -137,12 +137,12 @@ module _ (n : ℕ) (pos : 1 ≤ n) (c val : ℕ → ℕ) (low : Low c val) where
     abbrev Midway : St → Type 0
     Midway s = SimWith n c val b s me (λ _. Writing n c val (s .K) (s .D) (s .wk) (s .w) v m cells)
 
-    w-ticket-sim : (s : St) → m ≡ n → c (suc (s .K)) ≡ newTicket (excludedTickets (b .stamp 0) cells) → val (suc (s .K)) ≡ v
+    w-ticket-sim : (s : St) → m ≡ n → c (suc (s .K)) ≡ ticketAfter n (b .stamp 0) cells → val (suc (s .K)) ≡ v
         → Sim n c val b s me → Reading n c val (s .D) (s .wk) (s .B) m cells → Midway (w-ticket n c s)
     w-ticket-sim s q et ev z r =
-        let t : c (suc (s .K)) ≡ newTicket (excludedTickets (stamp-of c (s .D)) cells) = et ∙ ap (λ (x : Stamp). newTicket (excludedTickets x cells)) (z .own-w) in
+        let t : c (suc (s .K)) ≡ ticketAfter n (stamp-of c (s .D)) cells = et ∙ ap (λ (x : Stamp). ticketAfter n x cells) (z .own-w) in
         record {
-          inv = w-ticket-inv n c s me (z .inv) (r .wk-is ∙ ap suc q) (rw (t, r .B-is) (newTicket-new (excludedTickets (stamp-of c (s .D)) cells)));
+          inv = w-ticket-inv n c s me (z .inv) (r .wk-is ∙ ap suc q) (rw (t, r .B-is) (newTicket-new n (stamp-of c (s .D) .cur) (excludedTickets (stamp-of c (s .D)) cells)));
           size = z .size;
           to-reader = z .to-reader;
           to-writer = z .to-writer;
@@ -171,8 +171,8 @@ module _ (n : ℕ) (pos : 1 ≤ n) (c val : ℕ → ℕ) (low : Low c val) where
       new-is : new b v m cells ≡ stamp-of c (s .K)
       new-is =
           let e : b .stamp 0 .cur ≡ c (s .D) = rw (z .own-w) (stamp-cur c (s .D) (z .inv .D-pos)) in
-          let t : newTicket (excludedTickets (b .stamp 0) cells) ≡ c (suc (s .D)) =
-          ap (λ (x : Stamp). newTicket (excludedTickets x cells)) (z .own-w) ∙ sym (w .ticket) ∙ ap c (w .ahead) in
+          let t : ticketAfter n (b .stamp 0) cells ≡ c (suc (s .D)) =
+          ap (λ (x : Stamp). ticketAfter n x cells) (z .own-w) ∙ sym (w .ticket) ∙ ap c (w .ahead) in
           rw (w .ahead) (λ i. record { cur = t i; prev = e i })
 
       cell-is : plain v (new b v m cells) ≡ cell-of c val (s .K)
@@ -242,7 +242,7 @@ module _ (n : ℕ) (pos : 1 ≤ n) (c val : ℕ → ℕ) (low : Low c val) where
     Goes x = (t : St) × Sim n c val (entered b 0 2 x) t me × (m ≡ n → t .K ≡ suc (s .K)) × (m ≢ n → t .K ≡ s .K)
 
     pub w-step-sim : b .op 0 ≡ open-with v m cells → Sim n c val b s me
-        → (m ≡ n → (c (suc (s .K)) ≡ newTicket (excludedTickets (b .stamp 0) cells)) × (val (suc (s .K)) ≡ v))
+        → (m ≡ n → (c (suc (s .K)) ≡ ticketAfter n (b .stamp 0) cells) × (val (suc (s .K)) ≡ v))
         → Goes (writeTurn n (b .table) (b .stamp 0) v m cells)
     unfolding writeTurn
     w-step-sim e z future =
