@@ -1,7 +1,7 @@
 /* What a scope shows of a register's table, for a host in C. From standard input: the readers and the start reading on the first line, and
-   behind them the fresh stamp if it is to be the counted register; then a call a line, `W v`, `R i` or `S p`, as for the bench. Each call is
-   printed with its answer and, if a cell changed, the cell and its stamps; at the end all cells and the used rows of the log, in hexadecimal.
-   A refused set-up is the whole print. A line that is none of these is named, and no call is made. */
+   behind them the fresh stamp if it is to be the counted register; then a call a line, `W v`, `R i` or `S p`, as for the bench, or `U i`:
+   reader i is unplugged. Each call is printed with its answer and, if a cell changed, the cell and its stamps; at the end all cells and the
+   used rows of the log, in hexadecimal. A refused set-up is the whole print. A line that is none of these is named, and no call is made. */
 #include <inttypes.h>
 #include <stdbool.h>
 #include <stdio.h>
@@ -9,7 +9,9 @@
 
 #include "register.h"
 
-enum { CELLS = 272, ROWS = 4096, CALLS = 4096 };
+enum { CELLS = 272, ROWS = 4096, CALLS = 4096, RETIRE = 4 };
+
+static const char letters[] = "WRSU"; /* of the calls, by their number */
 
 struct set {
     bool counted;
@@ -47,10 +49,10 @@ static bool set_in(const char *line, struct set *s)
     return !s->counted || number_in(number_in(start, ' ', &s->start), '\n', &s->fresh) != NULL;
 }
 
-/* The call in a line as a word, or 0: above, 1 begins a write, 2 a read, 3 is a sub-step; below, the reading or the processor. */
+/* The call in a line as a word, or 0: above, 1 begins a write, 2 a read, 3 is a sub-step, 4 retires; below, the reading or the processor. */
 static uint64_t call_in(const char *line)
 {
-    const char *letters = "WRS", *found = strchr(letters, line[0]);
+    const char *found = strchr(letters, line[0]);
     uint32_t number;
     if (line[0] == '\0' || found == NULL || line[1] != ' ' || number_in(line + 2, '\n', &number) == NULL)
         return 0;
@@ -59,13 +61,13 @@ static uint64_t call_in(const char *line)
 
 static void print_answer(uint64_t call, uint64_t answer)
 {
-    printf("%c %" PRIu32 ": ", "WRS"[(call >> 32) - 1], (uint32_t)call);
+    printf("%c %" PRIu32 ": ", letters[(call >> 32) - 1], (uint32_t)call);
     if (answer >> 32 != 0)
         printf("refused %" PRIu32, (uint32_t)(answer >> 32));
     else if ((uint32_t)answer != 0)
         printf("sub-step %" PRIu32, (uint32_t)answer);
     else
-        printf("begun");
+        printf(call >> 32 == RETIRE ? "retired" : "begun");
 }
 
 /* A stamp of the first register in the low 12 bits of a word: cur and prev, or none. */

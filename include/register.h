@@ -6,7 +6,7 @@
 #include <stdint.h>
 
 /* Sets a register of so many readers up with a start reading, and makes the calls.
-   A call is a word: above, 1 begin a write, 2 begin a read, 3 a sub-step; below, the reading or the processor.
+   A call is a word: above, 1 begin a write, 2 begin a read, 3 a sub-step, 4 retire a reader; below, the reading or the processor.
    Its answer is a word: above, the refusal number or 0; below, the sub-step's number or 0.
    The calls end at the first word that is none, and where the answers have no place left; if set-up is refused none is made.
    The result: above, set-up's refusal number or 0; below, how many calls were made, modulo 2^32.

@@ -28,6 +28,10 @@ pub fn step(p: u64) -> u64 {
     3 << 32 | p
 }
 
+pub fn retire(p: u64) -> u64 {
+    4 << 32 | p
+}
+
 /// A random schedule in which every processor always has something to do: each turn goes to a random processor, which begins an
 /// operation if it has none open and otherwise moves a word. Which of the two it is, is learnt from the plain Rust register. It ends
 /// when so many rows of the log are used, or no more operation fits and all have ended.
@@ -67,16 +71,17 @@ pub fn schedule(n: u32, rows: usize, stop: usize, seed: u64) -> Vec<u64> {
     calls
 }
 
-/// A list of calls of which many are refused, some are no calls, and the numbers are of any size.
+/// A list of calls of which many are refused, a few retire a reader, some are no calls, and the numbers are of any size.
 pub fn unruly(n: u32, count: usize, random: &mut Random) -> Vec<u64> {
     (0..count)
         .map(|_| {
             let p = if random.below(20) == 0 { random.next() as u32 as u64 } else { random.below(n as u64 + 2) };
-            let kinds = if random.below(100) == 0 { 5 } else { 4 };
+            let kinds = if random.below(60) == 0 { 6 } else { 4 };
             match random.below(kinds) {
                 0 => begin_write(random.below(4) as u32),
                 1 => begin_read(p),
-                4 => 4 << 32 | p,
+                4 => retire(p),
+                5 => 5 << 32 | p,
                 _ => step(p),
             }
         })

@@ -46,7 +46,8 @@ struct Writer {
 
 #[derive(Clone, Copy)]
 struct Reader {
-    open: bool,
+    retired: bool,
+    open: bool, // an operation has begun and not ended: also that of a retired reader
     second: bool,
     moved: u32,
     stamp: Stamp,
@@ -65,7 +66,7 @@ pub struct Register {
     readers: [Reader; 16],
 }
 
-/// The questions of a call, 4 to 8; set-up's are 1 to 3.
+/// The questions of a call, 4 to 8 and 13; set-up's are 1 to 3.
 type Refusal = u32;
 
 impl Register {
@@ -86,13 +87,22 @@ impl Register {
         table[n as usize..cells].fill(other.pack());
         log[0] = row(5, n, start);
         let writer = Writer { open: false, moved: 0, reading: 0, barred: 0, ticket: 63, stamp: first.stamp };
-        let reader =
-            Reader { open: false, second: false, moved: 0, stamp: NONE, look: other, agree: false, found: None, result: other };
+        let reader = Reader {
+            retired: false,
+            open: false,
+            second: false,
+            moved: 0,
+            stamp: NONE,
+            look: other,
+            agree: false,
+            found: None,
+            result: other,
+        };
         Ok(Register { n: n as usize, rows: log.len(), used: 1, writer, readers: [reader; 16] })
     }
 
     fn open_operations(&self) -> usize {
-        self.writer.open as usize + self.readers[..self.n].iter().filter(|r| r.open).count()
+        self.writer.open as usize + self.readers[..self.n].iter().filter(|r| r.is_open()).count()
     }
 
     /// Question 4.
@@ -137,13 +147,22 @@ impl Register {
         Ok(0)
     }
 
-    pub fn begin_read(&mut self, table: &mut [u64], log: &mut [u64], p: u32) -> Result<u32, Refusal> {
+    /// Questions 4, 5 and 13 of a reader's begin or retirement.
+    fn asked_reader(&self, table: &[u64], log: &[u64], p: u32) -> Result<(), Refusal> {
         if !self.in_range(table, log) {
             return Err(4);
         }
         if p < 1 || p > self.n as u32 {
             return Err(5);
         }
+        if self.readers[p as usize - 1].retired {
+            return Err(13);
+        }
+        Ok(())
+    }
+
+    pub fn begin_read(&mut self, table: &mut [u64], log: &mut [u64], p: u32) -> Result<u32, Refusal> {
+        self.asked_reader(table, log, p)?;
         if self.readers[p as usize - 1].open {
             return Err(6);
         }
@@ -176,6 +195,9 @@ impl Register {
             return Ok(self.writer.moved);
         }
         let r = &mut self.readers[p as usize - 1];
+        if r.retired {
+            return Err(13);
+        }
         if !r.open {
             return Err(8);
         }
@@ -185,6 +207,12 @@ impl Register {
             self.add_row(log, row(4, p, reading));
         }
         Ok(moved)
+    }
+
+    pub fn retire(&mut self, table: &mut [u64], log: &mut [u64], p: u32) -> Result<u32, Refusal> {
+        self.asked_reader(table, log, p)?;
+        self.readers[p as usize - 1].retired = true;
+        Ok(0)
     }
 }
 
@@ -227,9 +255,14 @@ impl Writer {
 }
 
 impl Reader {
+    /// Whether its operation counts as open.
+    fn is_open(&self) -> bool {
+        self.open && !self.retired
+    }
+
     fn in_range(&self, n: u32) -> bool {
         let moved = if self.second { n + 3..=3 * n + 5 } else { 0..=2 * n + 2 };
-        self.stamp.in_range() && (!self.open || moved.contains(&self.moved))
+        self.stamp.in_range() && (!self.is_open() || moved.contains(&self.moved))
     }
 
     fn step(&mut self, n: usize, p: usize, table: &mut [u64]) {
@@ -313,6 +346,7 @@ pub fn run(n: u32, start: u32, calls: &[u64], table: &mut [u64], log: &mut [u64]
             1 => register.begin_write(table, log, number),
             2 => register.begin_read(table, log, number),
             3 => register.step(table, log, number),
+            4 => register.retire(table, log, number),
             _ => break,
         };
         *answer = word(told);
@@ -340,6 +374,7 @@ pub fn run_by_value(
             1 => begin_write_by_value(register, table, log, number),
             2 => begin_read_by_value(register, table, log, number),
             3 => step_by_value(register, table, log, number),
+            4 => retire_by_value(register, table, log, number),
             _ => break,
         };
         *answer = word(called.told);
@@ -369,6 +404,12 @@ fn begin_read_by_value(mut register: Register, table: &mut [u64], log: &mut [u64
 #[inline(never)]
 fn step_by_value(mut register: Register, table: &mut [u64], log: &mut [u64], p: u32) -> Called {
     let told = register.step(table, log, p);
+    Called { told, register }
+}
+
+#[inline(never)]
+fn retire_by_value(mut register: Register, table: &mut [u64], log: &mut [u64], p: u32) -> Called {
+    let told = register.retire(table, log, p);
     Called { told, register }
 }
 

@@ -5,7 +5,7 @@
 
 Writes COUNT lists to OUTDIR/in, in turn of the first register and of the counted one, the same at every run, and to OUTDIR/expected
 what tests/registers.c must print; then prints how many calls were made and how often each refusal was met. Among the lists are ones of no readers and
-of more than 16, tables and logs of wrong lengths, words that are no calls, and too few places for answers.
+of more than 16, tables and logs of wrong lengths, retirements in the midst of reads, words that are no calls, and too few places for answers.
 """
 
 import sys
@@ -31,17 +31,19 @@ def word(pick):
 
 
 def list_of_calls(pick, n, count):
-    """Bursts of one processor, begins; now and then another processor or a word that is no call."""
-    calls, burst = [], 1 + pick(3 * n + 3)
+    """Bursts of one processor, begins; now and then a retirement, another processor or a word that is no call."""
+    calls, burst, rare = [], 1 + pick(3 * n + 3), 20 + pick(200)
     while len(calls) < count:
         p = pick(n + 1)
         if pick(3):
             calls.append(1 << 32 | word(pick) if p == 0 else 2 << 32 | p)
         calls += [3 << 32 | p] * pick(burst)
+        if pick(rare) == 0:
+            calls.append(4 << 32 | (p if pick(2) else pick(n + 2)))
         if pick(30) == 0:
-            calls.append(one_of(pick, (2 << 32, 2 << 32 | n + 1, 3 << 32 | n + 1, 3 << 32 | word(pick), 2 << 32 | word(pick))))
+            calls.append(one_of(pick, (2, 3, 4)) << 32 | one_of(pick, (0, n + 1, word(pick))))
         if pick(900) == 0:
-            calls.append(one_of(pick, (0, pick(1 << 32), 4 << 32, word(pick) << 32 | 1, (1 << 64) - 1)))
+            calls.append(one_of(pick, (0, pick(1 << 32), 5 << 32, word(pick) << 32 | 1, (1 << 64) - 1)))
     return calls[:count]
 
 

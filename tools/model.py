@@ -1,7 +1,7 @@
 #!/usr/bin/env python3
 """Outside model of the arrow register and its judge, written from document 01 alone, and from
-document 02 for the requests that have landed (cards 2, 3 and 6; card 9, with its report CS-R8704;
-card 13; card 4 changes nothing that is told here).
+document 02 for the requests that have landed (cards 1, 2, 3 and 6; card 9, with its report
+CS-R8704; card 13; card 4 changes nothing that is told here).
 
     model.py bench              text on standard input, the bench's print on standard output
     model.py verdict            one line for the log whose bytes are on standard input
@@ -112,8 +112,8 @@ class Calls:
     """What the registers share: one writer (processor 0) and readers 1..n over a lent table and a
     lent log. A register tells its cells, what is fresh, and what each sub-step moves.
 
-    Answers: ('refused', k), ('set up',), ('begun',), ('step', number). Question 4 is
-    left out: nothing but these calls changes the state, and then it refuses nothing. It is
+    Answers: ('refused', k), ('set up',), ('begun',), ('step', number), ('retired',). Question 4
+    is left out: nothing but these calls changes the state, and then it refuses nothing. It is
     asked of a state of any origin by in_range.
     """
 
@@ -127,6 +127,7 @@ class Calls:
             return ('refused', 3)
         self.n, self.table, self.log, self.used = n, table, log, 0
         self.open = [None] * (n + 1)
+        self.retired = set()  # “The state gains the set of retired readers” (02, card 1)
         self._add_row(5, n, start)
         return ('set up',)
 
@@ -135,10 +136,25 @@ class Calls:
         return self._begin(0, 1, v)
 
     def begin_read(self, i):
-        """“for a read 1..n (5)”; then as any begin."""
+        """“for a read 1..n (5)”, and 13; then as any begin."""
+        return self._refused_reader(i) or self._begin(i, 3, 0)
+
+    def retire(self, i):
+        """“a call that retires a reader, for good, at any sub-step”. Its cells stay, no row is
+        added, and its operation “is open there no longer” (02, card 1)."""
+        refused = self._refused_reader(i)
+        if refused:
+            return refused
+        self.retired.add(i)
+        self.open[i] = None
+        return ('retired',)
+
+    def _refused_reader(self, i):
+        """Question 5 “(readers 1..n)”; “13, the reader is retired, for its begin, step or
+        retirement, right after question 5” (02, card 1). None if both are passed."""
         if not 1 <= i <= self.n:
             return ('refused', 5)
-        return self._begin(i, 3, 0)
+        return ('refused', 13) if i in self.retired else None
 
     def _begin(self, p, kind, reading):
         """“is it idle (6)? Are free rows at least open operations plus 2 (7)?”."""
@@ -158,9 +174,10 @@ class Calls:
         return False
 
     def step(self, p):
-        """Questions 5 and 8, then one sub-step; “A step tells its own sub-step number”."""
-        if not 0 <= p <= self.n:
-            return ('refused', 5)
+        """Questions 5, 13 and 8, then one sub-step; “A step tells its own sub-step number”."""
+        refused = None if p == 0 else self._refused_reader(p)
+        if refused:
+            return refused
         operation = self.open[p]
         if operation is None:
             return ('refused', 8)
@@ -330,8 +347,8 @@ def largest(seen):
 
 # ---------------------------------------------------------------------------- Calls as words
 # Open: how a list of calls is written for a host. A call: above, 1 begins a write, 2 begins a
-# read, 3 is a sub-step; below, the reading or the processor. An answer: above, the refusal number
-# or 0; below, the sub-step's number or 0.
+# read, 3 is a sub-step, 4 retires a reader; below, the reading or the processor. An answer: above,
+# the refusal number or 0; below, the sub-step's number or 0.
 
 def answer_word(answer):
     """An answer as a word."""
@@ -341,7 +358,8 @@ def answer_word(answer):
 def make_calls(register, words, answers):
     """Makes the calls up to the first word that is none, and as long as answers have places;
     tells how many."""
-    makers = {1: register.begin_write, 2: register.begin_read, 3: register.step}
+    makers = {1: register.begin_write, 2: register.begin_read, 3: register.step,
+              4: register.retire}
     for made, word in enumerate(words):
         kind, number = divmod(word, 1 << 32)
         if kind not in makers or made == len(answers):
@@ -656,7 +674,13 @@ class Range:
     log: int  # rows of this log
     rows: int  # the log's length as recorded
     used: int
-    moved: dict  # the words moved by each open processor
+    moved: dict  # the words moved by each processor whose operation has begun and not ended
+    retired: set = field(default_factory=set, kw_only=True)  # readers
+
+    def open(self):
+        """The words moved in each open operation: that of a retired reader “stops counting as
+        open in questions 4 and 7” (02, card 1)."""
+        return {p: moved for p, moved in self.moved.items() if p not in self.retired}
 
 
 @dataclass
@@ -683,14 +707,14 @@ def sizes_in_range(state, cells):
             and state.log == state.rows
             and 3 <= state.rows <= MAX_ROWS
             and 1 <= state.used <= state.rows
-            and state.rows - state.used >= len(state.moved))
+            and state.rows - state.used >= len(state.open()))
 
 
 def moved_in_range(state):
     """“words moved at most 2n−1 in an open write, 2n+2 in a read's first attempt, n+3 to 3n+5
     from its second on”."""
     n = state.n
-    for p, moved in state.moved.items():
+    for p, moved in state.open().items():
         least = n + 3 if p in state.second else 0
         most = 2 * n - 1 if p == 0 else 3 * n + 5 if p in state.second else 2 * n + 2
         if not least <= moved <= most:
@@ -715,7 +739,7 @@ def counted_in_range(state):
     """“4 takes at most n−1 words moved in an open write, 2n−2 in an open read, and the stamp
     before an open write below 4,294,967,295” (02, card 3)."""
     n = state.n
-    return (all(moved <= (n - 1 if p == 0 else 2 * n - 2) for p, moved in state.moved.items())
+    return (all(moved <= (n - 1 if p == 0 else 2 * n - 2) for p, moved in state.open().items())
             and (0 not in state.moved or state.stamp < LAST_STAMP))
 
 
@@ -1151,6 +1175,7 @@ def refuses_strangers(register):
     """Question 5, at both edges."""
     for reader in (0, register.n + 1):
         equal(register.begin_read(reader), ('refused', 5), 'begin of no reader')
+        equal(register.retire(reader), ('refused', 5), 'retirement of no reader')
     equal(register.step(register.n + 1), ('refused', 5), 'sub-step of no processor')
 
 
@@ -1166,6 +1191,63 @@ def test_register_questions():
     equal(register.begin_write(1), ('refused', 7), 'a log of 3: a second open operation')
     equal(steps(register, 1, 5), ('step', 5), 'a log of 3: the end')
     equal(register.begin_write(1), ('refused', 7), 'a log of 3: the next begin')
+    equal(register.retire(1), ('retired',), 'an idle reader is retired')
+    equal(register.begin_read(1), ('refused', 13), 'a log of 3: the begin of a retired reader')
+
+    begun = TicketRange(n=2, cells=6, log=16, rows=16, used=14, moved={0: 3, 1: 6},
+                        own=[FIRST_STAMP] + [NO_STAMP] * 2)
+    questions_of_retired(begun, {0: 3, 1: 7}, {'own': [FIRST_STAMP, (0, 64), NO_STAMP]})
+
+
+def questions_of_retired(begun, too_many, *changes):
+    """Question 4 of a state at its edges: with reader 1 retired its words moved do not count, nor
+    does it among the open operations; the writer's do, and the further changes."""
+    equal(in_range(begun), True, 'a state at its edges')
+    for retired in ({1}, {1, 2}):
+        unplugged = replace(begun, retired=retired)
+        for change in ({}, {'used': begun.used + 1}, {'moved': too_many}):
+            equal(in_range(replace(unplugged, **change)), True, f'retired {retired}: {change}')
+        for change in ({'used': begun.used + 2}, {'moved': {0: 9, 1: 0}}, *changes):
+            equal(in_range(replace(unplugged, **change)), False, f'retired {retired}: {change}')
+    for change in ({'used': begun.used + 1}, {'moved': too_many}):
+        equal(in_range(replace(begun, retired={2}, **change)), False, f'reader 1 is not: {change}')
+
+
+def test_retired_sessions():
+    """Card 1 for the first register: a reader that announced 0,1 and is unplugged, n=1; the row
+    that was kept for its end; the tickets that its cell bars."""
+    register = fresh_register(1, 7)
+    register.begin_read(1)
+    steps(register, 1, 2)
+    unplug(register, 1)
+    equal(whole_write(register, 9), ('step', 2), 'last sub-step of a write')
+    equal(cell_text(register, 1), '00000000FFF00100', 'cell 1 as it stood')
+    equal(register.log[:register.used], log_of(1, 7, 'R 1, W 9, w'), 'rows of the log')
+    tickets = []
+    for v in range(8):
+        whole_write(register, v)
+        tickets.append(unpack_cell(register.table[0]).stamp[0])
+    equal(tickets, [3, 4, 5, 2, 3, 4, 5, 2], '0 and 1 are barred for good')
+    frees_its_row(fresh_register(1, 7, rows=4))
+
+
+def unplug(register, reader):
+    """Retires the reader, which adds no row and moves no word; then 13 for it."""
+    before = list(register.table), register.used
+    equal(register.retire(reader), ('retired',), 'retirement')
+    for call in (register.begin_read, register.step, register.retire):
+        equal(call(reader), ('refused', 13), f'{call.__name__} of a retired reader')
+    refuses_strangers(register)
+    equal((register.table, register.used), before, 'no word moved and no row added')
+
+
+def frees_its_row(register):
+    """With a log of 4: “stops counting as open in question 7”."""
+    equal(register.begin_read(1), ('begun',), 'a log of 4: a read')
+    equal(register.begin_write(9), ('refused', 7), 'a log of 4: a write beside it')
+    unplug(register, 1)
+    equal(register.begin_write(9), ('begun',), 'a log of 4: the write')
+    equal(register.begin_write(9), ('refused', 6), 'a log of 4: it is open')
 
 
 def table_text(register):
@@ -1201,6 +1283,28 @@ def test_counted_sessions():
     equal(table_text(register), '00000009FFFFFFFF', 'the last stamp')
     equal(register.begin_write(8), ('refused', 14), 'a write after the last stamp')
     equal(whole_read(register, 1), 9, 'result after the last stamp')
+
+
+def test_counted_retired():
+    """Card 1 for the counted register: reader 1 of 3 is unplugged when it has shown a half written
+    9 to reader 2, and not to reader 3; and the row that was kept for its end."""
+    register = fresh_counted(3, 7, 5)
+    register.begin_write(9)
+    steps(register, 0, 1)
+    register.begin_read(1)
+    equal(steps(register, 1, 4), ('step', 4), 'the first of two stores')
+    unplug(register, 1)
+    equal(whole_read(register, 2), 9, 'result of the reader that was shown it')
+    equal(whole_read(register, 3), 9, 'result of the reader that the other showed it')
+    equal(steps(register, 0, 2), ('step', 3), 'last sub-step of the write')
+    equal([cell_text(register, place) for place in (3, 4)],
+          ['0000000900000006', '0000000000000005'], 'cells of reader 1 as they stood')
+    equal(register.log[:register.used],
+          log_of(3, 7, 'W 9, R 1, R 2, r 2 9, R 3, r 3 9, w'), 'rows of the log')
+    frees_its_row(fresh_counted(1, 7, 5, rows=4))
+    register = fresh_counted(1, 7, LAST_STAMP)
+    unplug(register, 1)
+    equal(register.begin_write(9), ('refused', 14), 'a write after the last stamp')
 
 
 # Of a read by reader 2 of 3: the other readers' cells to it, the writer's, and the result.
@@ -1262,8 +1366,8 @@ def test_counted_questions():
     equal(steps(register, 1, 3), ('step', 3), 'the end of a read after the last write')
     equal(register.begin_read(1), ('refused', 7), 'the next begin')
 
-    begun = CountedRange(n=2, cells=4, log=16, rows=16, used=3, moved={0: 1, 1: 2}, stamp=5)
-    equal(in_range(begun), True, 'a state at its edges')
+    begun = CountedRange(n=2, cells=4, log=16, rows=16, used=14, moved={0: 1, 1: 2}, stamp=5)
+    questions_of_retired(begun, {0: 1, 1: 3}, {'stamp': LAST_STAMP})
     for change in ({'cells': 3}, {'moved': {0: 2, 1: 2}}, {'moved': {0: 1, 1: 3}},
                    {'stamp': LAST_STAMP}, {'used': 15}, {'n': 17}, {'log': 17}):
         equal(in_range(replace(begun, **change)), False, f'out of range: {change}')
@@ -1272,101 +1376,255 @@ def test_counted_questions():
 
 
 class Watched:
-    """A counted register, and what card 3 says of each call, told again from the calls."""
+    """A register, and what the papers say of each call, told again from the calls. A register's
+    own are: the row of a reader, where a retirement meets it, the sub-step at which an operation
+    ends, what is noted of a begin and of a look, and the state that question 4 is asked of."""
 
-    def __init__(self, n, start, fresh, rows):
-        self.register = fresh_counted(n, start, fresh, spare=2, rows=rows)
-        self.last = fresh  # stamp used
+    def __init__(self, register):
+        self.register = register
         self.moved = {}  # words moved by each open processor
+        self.cells = {}  # of each retired reader, as it left them
+        self.unended = {}  # words moved by each reader retired in a read
         self.tally = Counter()
 
     def call(self, letter, number):
         """Makes the call, which must be answered as it is here."""
         p = 0 if letter == 'W' else number
         refusal = self.refusal(letter, p)
-        wanted = ('refused', refusal) if refusal else ('begun',)
-        if not refusal and letter == 'S':
-            self.moved[p] += 1
-            wanted = ('step', self.moved[p])
-        elif not refusal:
-            self.moved[p] = 0
-            self.last += letter == 'W'
-        operation = self.register.open[p] if p <= self.register.n else None
+        wanted = ('refused', refusal) if refusal else (ANSWERS[letter],)
+        if not refusal:
+            wanted += self.accepted(letter, p)
         used = self.register.used
         equal(getattr(self.register, MAKERS[letter])(number), wanted, f'{letter} {number}')
         self.tally[refusal] += 1
         if wanted[0] == 'step':
-            self.stepped(p, operation, self.register.used - used)
+            self.stepped(p, self.register.used - used)
         else:
             equal(self.register.used - used, int(wanted[0] == 'begun'), 'rows added')
+        for reader, cells in self.cells.items():
+            equal(self.row(reader), cells, 'cells of a retired reader')
 
     def refusal(self, letter, p):
         """The number of the first question that is answered no, or 0."""
         register = self.register
         free = len(register.log) - register.used
-        if not (letter == 'R') <= p <= register.n:
+        if not (letter in 'RU') <= p <= register.n:
             return 5
+        if p in self.cells:
+            return 13
         if letter == 'S':
             return 0 if p in self.moved else 8
+        if letter == 'U':
+            return 0
         if p in self.moved:
             return 6
-        if free < len(self.moved) + 2:
-            return 7
-        return 14 if letter == 'W' and self.last == LAST_STAMP else 0
+        return 7 if free < len(self.moved) + 2 else 14 if letter == 'W' and self.spent() else 0
 
-    def stepped(self, p, operation, added):
-        """A write ends at n, a read at 2n−1; “the largest stamp a read meets is the one it finds
-        at the writer or one more”."""
-        n = self.register.n
-        ended = self.moved[p] == (n if p == 0 else 2 * n - 1)
+    def spent(self):
+        """Whether the stamps are."""
+        return False
+
+    def accepted(self, letter, p):
+        """Notes a call that is not refused; a sub-step's number."""
+        if letter == 'U':
+            self.tally[self.phase(p)] += 1
+            self.cells[p] = self.row(p)
+            if p in self.moved:
+                self.unended[p] = self.moved.pop(p)
+        elif letter == 'S':
+            self.look(p)
+            self.moved[p] += 1
+            return (self.moved[p],)
+        else:
+            self.moved[p] = 0
+            self.begun(p)
+        return ()
+
+    def stepped(self, p, added):
+        """“the others still end within their own sub-steps” (02, card 1), and there."""
+        ended = self.moved[p] == self.last_sub_step(p)
         equal(added, int(ended), 'rows added by a sub-step')
-        if p > 0 and self.moved[p] == n:
-            stamps = [cell.stamp for cell in operation.seen]
-            more = max(stamps) - stamps[-1]
-            must(more in (0, 1), 'the largest stamp is the writer\'s or one more')
-            self.tally['one more'] += more
         if ended:
             equal(unpack_row(self.register.log[self.register.used - 1]).kind, 4 if p else 2, 'end')
-            self.tally['ended after the last'] += p > 0 and self.last == LAST_STAMP
+            self.tally['ended beside a retired one'] += bool(self.cells)
             del self.moved[p]
 
     def left(self):
         """What the list leaves: a log with an order, a state in range, and the rest untouched."""
-        register, n = self.register, self.register.n
-        equal(judge(register.log[:register.used])[0], 'order', 'log of the counted register')
+        register = self.register
+        rows = register.log[:register.used]
+        equal(judge(rows)[0], 'order', f'log {bytes_of(rows).hex()}')
         must(set(register.log[register.used:]) <= {-1}, 'further rows untouched')
-        must(set(register.table[n * n:]) == {-1}, 'further cells untouched')
-        stamps = [unpack_counted(word).stamp for word in register.table[:n * n]]
-        must(max(stamps) <= self.last, 'stamps of the table')
-        state = CountedRange(n, n * n + 2, len(register.log), len(register.log), register.used,
-                             self.moved, register.stamp)
+        state = self.state(register.n, len(register.table), len(register.log), len(register.log),
+                           register.used, {**self.moved, **self.unended}, retired=set(self.cells))
         must(in_range(state), 'question 4')
 
 
-MAKERS = {'W': 'begin_write', 'R': 'begin_read', 'S': 'step'}
+class WatchedTickets(Watched):
+    """The register of document 01."""
+
+    def __init__(self, n, start, rows):
+        super().__init__(fresh_register(n, start, spare=2, rows=rows))
+        self.looks = {}  # the stamps that each open read's first attempt finds at the writer
+        self.barred = set()  # by the readers that were retired when the open write began
+
+    def row(self, reader):
+        n = self.register.n
+        return self.register.table[n * reader:n * reader + n]
+
+    def phase(self, reader):
+        """Where a reader is retired."""
+        n, moved = self.register.n, self.moved.get(reader)
+        if moved is None or moved < 2:
+            return {None: 'idle', 0: 'begun', 1: 'first look'}[moved]
+        if moved < n + 3:
+            return 'announced'
+        second = len(set(self.looks[reader])) > 1
+        return 'second attempt' if second and moved < 2 * n + 6 else 'stores'
+
+    def begun(self, p):
+        self.looks[p] = []
+        if p == 0:
+            cells = [unpack_cell(cells[0]) for cells in self.cells.values()]
+            self.barred = barred_by(cells) - {NONE}
+
+    def look(self, p):
+        """The first, second and third look of the first attempt."""
+        n = self.register.n
+        if p > 0 and self.moved[p] in (0, 2, n + 2):
+            word = self.register.table[cell_index(n, 0, p)]
+            self.looks[p].append(unpack_cell(word).stamp)
+
+    def last_sub_step(self, p):
+        """“A write ends at its sub-step 2n. A read ends at 2n+3 if the three looks of its first
+        attempt have equal stamps, else at 3n+6.”"""
+        n = self.register.n
+        if p == 0:
+            return 2 * n
+        return 2 * n + 3 if len(set(self.looks[p])) == 1 else 3 * n + 6
+
+    def stepped(self, p, added):
+        """“the tickets in them go on being barred” (02, card 1)."""
+        if p == 0 and self.moved[0] == self.register.n + 1:
+            must(unpack_cell(self.register.table[0]).stamp[0] not in self.barred, 'a barred ticket')
+            self.tally['tickets barred by a retired one'] += bool(self.barred)
+        super().stepped(p, added)
+
+    def state(self, *sizes, retired):
+        register = self.register
+        second = {p for p in range(1, register.n + 1)
+                  if register.open[p] is not None and register.open[p].attempt == 2}
+        write = register.open[0] or Operation()
+        return TicketRange(*sizes, register.own, second, barred_by(write.seen), write.stamp[0],
+                           retired=retired)
+
+    def left(self):
+        super().left()
+        check_table(self.register)
 
 
-def test_counted():
-    """Random lists of calls, refused ones among them: bursts of one processor, begins and
-    sub-steps of any."""
+class WatchedCounted(Watched):
+    """The counted register."""
+
+    def __init__(self, n, start, rows, fresh):
+        super().__init__(fresh_counted(n, start, fresh, spare=2, rows=rows))
+        self.last = fresh  # stamp used
+
+    def row(self, reader):
+        n = self.register.n
+        at = n + (reader - 1) * (n - 1)
+        return self.register.table[at:at + n - 1]
+
+    def phase(self, reader):
+        """Where a reader is retired."""
+        moved = self.moved.get(reader)
+        if not moved:
+            return 'idle' if moved is None else 'begun'
+        return 'looks' if moved < self.register.n else 'stores'
+
+    def spent(self):
+        return self.last == LAST_STAMP
+
+    def begun(self, p):
+        self.last += p == 0
+
+    def look(self, p):
+        """“the largest stamp a read meets is the one it finds at the writer or one more”: asked
+        when it has met all, of the model's own."""
+        if p > 0 and self.moved[p] == self.register.n:
+            stamps = [cell.stamp for cell in self.register.open[p].seen]
+            more = max(stamps) - stamps[-1]
+            must(more in (0, 1), 'the largest stamp is the writer\'s or one more')
+            self.tally['one more'] += more
+
+    def last_sub_step(self, p):
+        """“A write … takes n sub-steps”, a read “takes 2n−1”."""
+        return 2 * self.register.n - 1 if p else self.register.n
+
+    def stepped(self, p, added):
+        """“A reader's begins and steps go on after the stamps are spent.”"""
+        self.tally['ended after the last'] += bool(p and added and self.spent())
+        super().stepped(p, added)
+
+    def state(self, *sizes, retired):
+        return CountedRange(*sizes, self.register.stamp, retired=retired)
+
+    def left(self):
+        super().left()
+        n = self.register.n
+        must(set(self.register.table[n * n:]) == {-1}, 'further cells untouched')
+        stamps = [unpack_counted(word).stamp for word in self.register.table[:n * n]]
+        must(max(stamps) <= self.last, 'stamps of the table')
+
+
+MAKERS = {'W': 'begin_write', 'R': 'begin_read', 'S': 'step', 'U': 'retire'}
+ANSWERS = {'W': 'begun', 'R': 'begun', 'S': 'step', 'U': 'retired'}
+
+
+def watched_list(pick, watched):
+    """A random list of calls, refused ones among them: bursts of one processor, begins and
+    sub-steps of any, now and then a retirement of any."""
+    n = watched.register.n
+    burst, rare = 1 + pick(3 * n), 4 + pick(40)
+    for _ in range(20 + pick(60)):
+        p = pick(n + 2)
+        if pick(4):
+            watched.call(*(('W', pick(4)) if p == 0 else ('R', p)))
+        for _ in range(1 + pick(burst)):
+            if pick(burst * rare) == 0:
+                watched.call('U', p if pick(2) else pick(n + 2))
+            watched.call('S', p)
+    watched.left()
+    return watched.tally + Counter(lists=1)
+
+
+def list_sizes(pick, trial):
+    """Readers, start reading and rows of a list."""
+    n = 1 + trial % 5 if trial % 4 else 1 + pick(MAX_READERS)
+    return n, pick(4), 3 + pick((8, 40, 400)[pick(3)])
+
+
+def test_lists():
+    """Random lists of calls of both registers; how many calls, and of these retirements by
+    where they met the reader."""
     pick = random.Random(4).randrange
-    tally = Counter()
-    for trial in range(1200):
-        n = 1 + trial % 5 if trial % 4 else 1 + pick(MAX_READERS)
+    tally, counted = Counter(), Counter()
+    for trial in range(1600):
+        tally += watched_list(pick, WatchedTickets(*list_sizes(pick, trial)))
         fresh = (0, 5, LAST_STAMP - pick(9), pick(1 << 32))[pick(4)]
-        watched = Watched(n, pick(4), fresh, 3 + pick((8, 40, 400)[pick(3)]))
-        burst = 1 + pick(3 * n)
-        for _ in range(20 + pick(60)):
-            p = pick(n + 2)
-            if pick(4):
-                watched.call(*(('W', pick(4)) if p == 0 else ('R', p)))
-            for _ in range(1 + pick(burst)):
-                watched.call('S', p)
-        watched.left()
-        tally += watched.tally + Counter(lists=1)
-    must(min(tally[k] for k in (0, 5, 6, 7, 8, 14, 'one more', 'ended after the last')) > 100,
+        counted += watched_list(pick, WatchedCounted(*list_sizes(pick, trial), fresh))
+    answers = (0, 5, 6, 7, 8, 13, 'ended beside a retired one')
+    phases = 'idle', 'begun', 'first look', 'announced', 'second attempt', 'stores'
+    counted_phases = 'idle', 'begun', 'looks', 'stores'
+    must(min(tally[k] for k in (*answers, 'tickets barred by a retired one')) > 100,
          'every answer is common')
-    return tally['lists'], sum(tally[k] for k in (0, 5, 6, 7, 8, 14))
+    must(min(counted[k] for k in (*answers, 14, 'one more', 'ended after the last')) > 100,
+         'every answer of the counted register is common')
+    for name, each, where in ('', tally, phases), ('counted ', counted, counted_phases):
+        must(min(each[phase] for phase in where) > 20, 'retirements everywhere')
+        calls = sum(times for k, times in each.items() if isinstance(k, int))
+        yield (f'{name}register: {each["lists"]} lists of {calls} calls, every log with an order; '
+               'retired ' + ', '.join(f'{phase}: {each[phase]}' for phase in where))
 
 
 JUDGE_SESSIONS = [
@@ -1547,11 +1805,13 @@ def selftest():
     test_judge_questions()
     test_bench()
     test_register()
+    test_retired_sessions()
     test_counted_sessions()
+    test_counted_retired()
     test_counted_rules()
     test_counted_questions()
-    lists, calls = test_counted()
-    print(f'counted register: {lists} lists of {calls} calls, every log with an order')
+    for line in test_lists():
+        print(line)
     tally = test_judges()
     print(f'two definitions agree on all {test_definitions()} small logs')
     print(f"brute force and sweep agree: {tally['order']} orders, {tally['refused']} refusals")

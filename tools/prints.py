@@ -71,8 +71,8 @@ def scope(text):
     n, start, *fresh = map(int, first.split())
     register = Counted() if fresh else Register()
     register.set_up(n, start, *fresh, [0] * (n * n if fresh else n * n + n), [0] * MAX_ROWS)
-    makers = {'W': register.begin_write, 'R': register.begin_read, 'S': register.step}
-    told = {'begun': 'begun', 'step': 'sub-step {}', 'refused': 'refused {}'}
+    makers = {'W': register.begin_write, 'R': register.begin_read, 'S': register.step, 'U': register.retire}
+    told = {'begun': 'begun', 'retired': 'retired', 'step': 'sub-step {}', 'refused': 'refused {}'}
     for call in calls:
         before = list(register.table)
         letter, number = call.split()

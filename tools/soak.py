@@ -20,7 +20,7 @@ SEED = 0x9E3779B97F4A7C15
 CELLS = 280  # of every table, 8 more than 16 readers need
 MOST_CALLS = 65536
 LENGTHS = (3, 6, 17, 64, 300, 1024, 2500, 4096)  # of the log
-WRITE, READ, STEP = (kind << 32 for kind in (1, 2, 3))  # calls as words
+WRITE, READ, STEP, RETIRE = (kind << 32 for kind in (1, 2, 3, 4))  # calls as words
 
 
 def mix(x):
@@ -38,14 +38,15 @@ def fold(sum_, word):
 class Source:
     """The calls of a round: mostly sub-steps of one processor after another, in bursts; begins;
     now and then a processor number out of range. One processor is passed over at first choice,
-    and another one later."""
+    and another one later. Now and then one is unplugged behind its burst."""
 
     def __init__(self, n, seed):
         self.x, self.n = mix(seed), n
         self.start = self.pick(4)
         self.rows = LENGTHS[self.pick(8)]
         self.burst = 1 + self.pick(4) * (n + 1)
-        self.processor = self.left = self.paused = 0
+        self.processor = self.left = self.paused = self.life = 0
+        self.last = False  # whether the processor is unplugged behind its burst
 
     def pick(self, k):
         """A number from 0 to k-1."""
@@ -54,13 +55,26 @@ class Source:
 
     def calls(self):
         """As many calls as the log's length asks for."""
+        self.renew()
         return [self.call() for _ in range(min(32 * self.rows, MOST_CALLS))]
+
+    def renew(self):
+        """Another life, of which a turn takes a burst: so long that mostly some readers are left
+        when the log is full."""
+        self.life = self.pick(11 * self.rows)
+        self.last = False
 
     def call(self):
         if self.left > 0:
             self.left -= 1
             return STEP | self.processor
+        if self.last:
+            return self.unplug()
         self.turn()
+        if self.life < self.burst:
+            self.last = True
+            return self.begin()
+        self.life -= self.burst
         kind = self.pick(64)
         if kind == 0:
             return STEP | self.n + self.pick(3)
@@ -80,6 +94,12 @@ class Source:
         self.left = self.pick(self.burst)
         if self.pick(128) == 0:
             self.paused = self.pick(self.n + 1)
+
+    def unplug(self):
+        """The processor whose turn it was, at times any number from 0 to n+1."""
+        number = self.processor if self.pick(8) else self.pick(self.n + 2)
+        self.renew()
+        return RETIRE | number
 
     def begin(self):
         """Few readings, so that many writes have the same."""

@@ -9,7 +9,7 @@ from dataclasses import replace
 
 from model import (
     FIRST_STAMP, LAST_STAMP, NO_STAMP, Cell, Counted, CountedCell, CountedRange, Register,
-    TicketRange, bytes_of, call_line, counted_index, in_range, judge, judge_bytes, log_of,
+    TicketRange, bytes_of, counted_index, in_range, judge, judge_bytes, log_of,
     new_ticket, pack_cell, pack_counted, pack_row)
 from verdict_logs import OPEN_READ, OPEN_WRITE, START
 
@@ -50,7 +50,8 @@ SET_UPS = [
 
 
 def script_line(n, rows, text):
-    """The answer to each call, calls as the bench reads them; and the order of the rows."""
+    """The answer to each call, calls as the bench reads them, and `U i` retires reader i; and the
+    order of the rows."""
     register = Register()
     register.set_up(n, 7, [MARK] * (n * n + n), [MARK] * rows)
     calls = calls_text(register, text)
@@ -58,11 +59,12 @@ def script_line(n, rows, text):
 
 
 def calls_text(register, text):
-    makers = {b'W': register.begin_write, b'R': register.begin_read, b'S': register.step}
+    makers = {'W': register.begin_write, 'R': register.begin_read, 'S': register.step,
+              'U': register.retire}
     line = ''
     for call in filter(None, text.split(', ')):
-        letter, number = call_line(call.encode())
-        line += call_text(call, makers[letter](number))
+        letter, number = call.split()
+        line += call_text(call, makers[letter](int(number)))
     return line
 
 
@@ -77,6 +79,15 @@ SCRIPTS = [
     (2, 5, 'W 1, R 1, R 2, S 0, S 0, S 0, S 0, R 2'),
     (3, 6, 'R 3, R 1, R 2, W 5'),
     (3, 7, 'R 3, R 1, R 2, W 5'),
+    # Card 1: 13 right after 5, for begin, step and retirement; an idle reader; a full log; the row
+    # kept for the end; the other reader and the writer go on.
+    (1, 16, 'R 1, S 1, S 1, U 1, R 1, S 1, U 1, U 0, U 2, U 9, W 9, S 0, S 0'),
+    (2, 16, 'U 2, R 2, S 2, U 2, R 1, S 1, W 9, S 0, S 0, S 0, S 0'),
+    (1, 3, 'R 1, U 1, R 1, W 5, U 1'),
+    (1, 4, 'R 1, W 9, U 1, W 9, R 1'),
+    (2, 16, 'W 9, S 0, S 0, S 0, R 1, S 1, S 1, S 1, S 1, S 1, S 1, U 1, '
+            'R 2, S 2, S 2, S 2, S 2, S 2, S 2, S 2, S 0, S 1'),
+    (2, 16, 'U 1, U 2, R 1, R 2, W 9, S 0, S 0, S 0, S 0, W 8'),
 ]
 
 
@@ -134,6 +145,19 @@ def heads(fresh, begun, needed):
     yield from ((f'rows used {used}', replace(begun, used=used)) for used in (14, 15))
 
 
+def retired(begun, moved):
+    """Of either register, a reader retired: 1, whose read is open; 2, idle; one that there is
+    not. Of reader 1 words moved that would be too many, and rows used that would leave too few
+    free."""
+    yield 'retired reader 1', replace(begun, retired={1})
+    yield 'retired reader 2', replace(begun, retired={2})
+    yield 'retired reader 3', replace(begun, retired={3})
+    yield 'retired, calls of reader 3', replace(begun, retired={3}), 'R 3, S 3, U 3'
+    yield f'retired, read moved {moved}', replace(begun, retired={1}, moved={0: 1, 1: moved})
+    for used in (13, 14, 15, 16):
+        yield f'retired, rows used {used}', replace(begun, retired={1}, used=used)
+
+
 RANGES = [
     *heads(FRESH, BEGUN, 6),
     write(3, [], 63), write(4, [], 63), write(255, [], 63),
@@ -148,30 +172,40 @@ RANGES = [
     write(3, range(2, 10), 63),
     unstamped(1, range(0, 5)), unstamped(1, range(0, 6)),
     (f'count {LAST_STAMP}', BEGUN),  # the counted register's
+    *retired(BEGUN, 255),
+    ('retired, ' + stamp(1, 64, 1)[0], replace(stamp(1, 64, 1)[1], retired={1})),
 ]
 
 
 def answer_with(state, letter, p):
-    """Questions 4 to 8 and 14, and the sub-step's number: “the words this operation has moved”."""
+    """Questions 4 to 8, 13 and 14, and the sub-step's number: “the words this operation has
+    moved”."""
     if not in_range(state):
         return ('refused', 4)
-    if not (1 if letter == 'R' else 0) <= p <= state.n:
+    if not (letter in 'RU') <= p <= state.n:
         return ('refused', 5)
+    if p in state.retired:
+        return ('refused', 13)
+    if letter == 'U':
+        return ('retired',)
     if letter == 'S':
         return ('step', state.moved[p] + 1) if p in state.moved else ('refused', 8)
     if p in state.moved:
         return ('refused', 6)
-    if state.rows - state.used < len(state.moved) + 2:
+    if state.rows - state.used < len(state.open()) + 2:
         return ('refused', 7)
     if letter == 'W' and isinstance(state, CountedRange) and state.stamp == LAST_STAMP:
         return ('refused', 14)
     return ('begun',)
 
 
-def range_line(name, state):
-    """Five calls, each with the same state."""
-    calls = ('W 5', 'W', 0), ('R 2', 'R', 2), ('S 0', 'S', 0), ('S 1', 'S', 1), ('S 99', 'S', 99)
-    return name + ''.join(call_text(call, answer_with(state, *made)) for call, *made in calls)
+def range_line(name, state, calls='W 5, R 2, S 0, S 1, S 99, U 1, U 99'):
+    """The calls, each with the same state."""
+    for call in calls.split(', '):
+        letter, number = call.split()
+        p = 0 if letter == 'W' else int(number)
+        name += call_text(call, answer_with(state, letter, p))
+    return name
 
 
 # The new ticket in states handed in
@@ -265,6 +299,13 @@ COUNTED_SCRIPTS = [
                            'S 1, S 1, S 1, S 1, S 1, R 1'),
     (2, LAST_STAMP, 16, 'W 5, R 1, W 5, S 1, S 1, S 1, W 5, R 2, S 2, S 2, S 2'),
     (2, LAST_STAMP - 2, 16, 'W 1, S 0, S 0, W 2, S 0, S 0, W 3, R 2, S 2, S 2, S 2, R 2, S 2'),
+    # Card 1, as for the first register.
+    (2, 5, 16, 'R 1, S 1, U 1, R 1, S 1, U 1, U 0, U 3, U 9, W 9, S 0, S 0'),
+    (2, 5, 16, 'U 2, R 2, S 2, U 2, R 1, S 1, S 1, S 1, W 9, S 0, S 0'),
+    (1, 5, 4, 'R 1, W 9, U 1, W 9, R 1'),
+    (3, 5, 16, 'W 9, S 0, R 1, S 1, S 1, S 1, S 1, U 1, R 2, S 2, S 2, S 2, S 2, S 2, '
+               'R 3, S 3, S 3, S 3, S 3, S 3, S 0, S 0, S 1'),
+    (1, LAST_STAMP, 16, 'U 1, W 9, R 1'),
 ]
 
 # “the largest stamp (the writer's if equal, else the lowest reader)”: reading and stamp of each.
@@ -301,6 +342,7 @@ COUNTED_RANGES = [
     *(counted_read(moved, 'second attempt, ') for moved in (0, 2, 3)),
     ('fresh, second attempt, read moved 255', COUNTED_FRESH),
     ('reader 3 open', COUNTED_BEGUN),
+    *retired(COUNTED_BEGUN, 255),
 ]
 
 
@@ -309,7 +351,7 @@ def counted_lines():
     yield from (counted_set_up_line(*sizes) for sizes in COUNTED_SET_UPS)
     yield from (counted_script_line(*script) for script in COUNTED_SCRIPTS)
     yield from (cells_set_line(*cells) for cells in CELLS_SET)
-    yield from (range_line(f'counted, {name}', state) for name, state in COUNTED_RANGES)
+    yield from (range_line(f'counted, {name}', *rest) for name, *rest in COUNTED_RANGES)
 
 
 # The judge

@@ -23,7 +23,8 @@ in-places i a b e = ltb-true i b (right (ltb i a) (ltb i b) e)
 low-call : (w : ℕ) → LowCall (callIn w)
 low-call w =
     pick-ind LowCall (eqb (kindOf w) 1) _ _ (λ e. mod-lt w (omega arith))
-    (λ e. pick-ind LowCall (eqb (kindOf w) 2) _ _ (λ f. tt) (λ f. tt))
+    (λ e. pick-ind LowCall (eqb (kindOf w) 2) _ _ (λ f. tt)
+    (λ f. pick-ind LowCall (eqb (kindOf w) 3) _ _ (λ g. tt) (λ g. tt)))
 
 pub low-calls : (words places : List ℕ) → LowCalls (callsIn words places)
 unfolding callsIn

@@ -1,17 +1,16 @@
 -- A machine that numbers the writes follows a register's book: it does so for every list of calls if it does so operation by operation.
 use Prim.Native.Nat.{ℕ, zero, suc, _+_, _^_, _<_}
 use mathlib.Core.Path.{_≡_, refl, subst, ap}
-use mathlib.Core.Bool.{_&&_, false}
+use mathlib.Core.Bool.{false}
 use mathlib.Core.List.{List, [], _∷_, _++_}
 use native.Mathlib.Omega.{arith}
 use lib.ListN.{getD}
-use lib.Dec.{leb}
-use borrow.Author.Tests.{leb-true, leb-false}
-use Rattle.words.proofs.Laws.Choice.{pick-ind, le-ind, eq-ind, right, never}
-use Rattle.common.specs.Calls.{Call, write, read, step, LowCall, LowCalls}
+use Rattle.words.proofs.Laws.Choice.{pick-ind, le-ind, eq-ind, never}
+use Rattle.common.specs.Calls.{Call, write, read, step, retire, LowCall, LowCalls}
 use Rattle.common.specs.declared.Answer.{Answer}
 use Rattle.common.specs.declared.Answer.the-variants.{Accepted, Moved, Refused}
-use Rattle.common.specs.Book.{Operation, idle, open-with, isOpen, Model, Telling, Told, begun, begins, entered, beginsWrite, movesWrite, movesRead, told, kept}
+use Rattle.common.specs.Book.{Operation, idle, open-with, isOpen, Model, Telling, Told, begun, begins, entered, withdrawn, beginsWrite, movesWrite, movesRead, told, kept}
+use Rattle.common.proofs.Asked.{of-processor}
 
 -- Q of every element
 module _ {X : Type 0} (Q : X → Type 0) where
@@ -64,8 +63,11 @@ module _ {Stamp Cell X : Type 0} (B : Telling Stamp Cell) (n len : ℕ) (atBegin
   gained b (write v) (Moved k) = []
   gained b (write v) (Refused r) = []
   gained b (read p) a = []
-  gained b (step zero) a = moving b (b .op 0)
+  gained b (step zero) Accepted = []
+  gained b (step zero) (Moved k) = moving b (b .op 0)
+  gained b (step zero) (Refused r) = []
   gained b (step (suc i)) a = []
+  gained b (retire p) a = []
 
   unfoldable pub gains : Model Stamp Cell → List Call → List X
   gains b [] = []
@@ -84,8 +86,11 @@ module _ {Stamp Cell X : Type 0} (B : Telling Stamp Cell) (n len : ℕ) (atBegin
     gained-all b (write v) (Moved k) low h = tt
     gained-all b (write v) (Refused r) low h = tt
     gained-all b (read p) a low h = tt
-    gained-all b (step zero) a low h = moving-all b (b .op 0) refl h
+    gained-all b (step zero) Accepted low h = tt
+    gained-all b (step zero) (Moved k) low h = moving-all b (b .op 0) refl h
+    gained-all b (step zero) (Refused r) low h = tt
     gained-all b (step (suc i)) a low h = tt
+    gained-all b (retire p) a low h = tt
 
     pub gains-all : (b : Model Stamp Cell) (cs : List Call) → LowCalls cs → I b → All Q (gains b cs)
     unfolding gains
@@ -112,6 +117,8 @@ module _ {Stamp Cell X : Type 0} (B : Telling Stamp Cell) (n len : ℕ) (atBegin
       pub read-begins : (b : Model Stamp Cell) (s : S) (i : ℕ) → i < n → b .op (suc i) ≡ idle → Sim b s → Go (begun b (suc i) 3 0 .model) s
       pub read-steps : (b : Model Stamp Cell) (s : S) (i v m : ℕ) (cells : List Cell) → i < n → b .op (suc i) ≡ open-with v m cells → Sim b s
           → Go (entered b (suc i) 4 (B .readTurn n (suc i) (b .table) (b .stamp (suc i)) m cells)) s
+      -- a reader that is retired moves no more: a state behind the book stays behind it
+      pub retires : (b : Model Stamp Cell) (s : S) (p : ℕ) → Sim b s → Sim (withdrawn b p) s
 
     module _ (F : Follows) where
       module _ (b : Model Stamp Cell) (s : S) (xs : List X) (z : Sim b s) where
@@ -134,9 +141,9 @@ module _ {Stamp Cell X : Type 0} (B : Telling Stamp Cell) (n len : ℕ) (atBegin
             (λ e. le-ind To _ len _ _
             (λ _. let r = F .read-begins b s i h (is-idle (b .op (suc i)) e) z in (r .0, r .1, rw (r .2) f)) (λ _. (s, z, f)))
 
-        steps-write : (q : Operation Cell) → b .op 0 ≡ q → Future given (K s) (moving b q ++ xs) → To (movesWrite B n b q)
+        steps-write : (q : Operation Cell) → b .op 0 ≡ q → Future given (K s) (gained b (step 0) (movesWrite B n b q .answer) ++ xs) → To (movesWrite B n b q)
         steps-write idle e f = (s, z, f)
-        steps-write (open-with v m cells) e f = F .write-steps b s xs v m cells e z f
+        steps-write (open-with v m cells) e f = F .write-steps b s xs v m cells e z (subst (λ (q : Operation Cell). Future given (K s) (moving b q ++ xs)) e f)
 
         steps-read : (i : ℕ) → i < n → (q : Operation Cell) → b .op (suc i) ≡ q → Future given (K s) xs → To (movesRead B n b (suc i) q)
         steps-read i h idle e f = (s, z, f)
@@ -147,15 +154,14 @@ module _ {Stamp Cell X : Type 0} (B : Telling Stamp Cell) (n len : ℕ) (atBegin
         call-follows (write v) low f = writes v low f
         call-follows (read zero) _ f = (s, z, f)
         call-follows (read (suc i)) _ f =
-            pick-ind To (leb 1 (suc i) && leb (suc i) n) _ _
-            (λ e. reads i (leb-true (suc i) n (right (leb 1 (suc i)) (leb (suc i) n) e)) f) (λ _. (s, z, f))
+            of-processor To n b (s, z, f) (s, z, f) 1 (suc i) _ (λ _ h _. reads i h f)
         call-follows (step zero) _ f =
-            pick-ind To (leb 0 0 && leb 0 n) _ _ (λ _. steps-write (b .op 0) refl f) (λ h. absurd (omega (arith, leb-false 0 n h)))
+            let M : Told Stamp Cell → Type 0 = λ x. Future given (K s) (gained b (step 0) (x .answer) ++ xs) → To x in
+            of-processor M n b (λ f. (s, z, f)) (λ f. (s, z, f)) 0 0 _ (λ _ _ _. steps-write (b .op 0) refl) f
         call-follows (step (suc i)) _ f =
-            pick-ind To (leb 0 (suc i) && leb (suc i) n) _ _
-            (λ e. eq-ind To (suc i) 0 _ _ (λ e. absurd (omega arith))
-            (λ _. steps-read i (leb-true (suc i) n (right (leb 0 (suc i)) (leb (suc i) n) e)) (b .op (suc i)) refl f))
-            (λ _. (s, z, f))
+            of-processor To n b (s, z, f) (s, z, f) 0 (suc i) _
+            (λ _ h _. eq-ind To (suc i) 0 _ _ (λ e. absurd (omega arith)) (λ _. steps-read i h (b .op (suc i)) refl f))
+        call-follows (retire p) _ f = of-processor To n b (s, z, f) (s, z, f) 1 p _ (λ _ _ _. (s, F .retires b s p z, f))
 
       pub calls-follow : (b : Model Stamp Cell) (s : S) (cs : List Call) → LowCalls cs → Sim b s → Future given (K s) (gains b cs)
           → (t : S) × Sim (kept B n len b cs .model) t

@@ -1,33 +1,32 @@
 -- A state that passed question 4 passes it again after the call.
 use Prim.Native.Nat.{ℕ, _+_, _-_, _≤_, _<_}
-use mathlib.Core.Path.{_≡_, refl, sym, subst, ap}
+use mathlib.Core.Path.{_≡_, refl, sym, subst, ap, _∙_}
 use mathlib.Core.Logic.{_≢_}
 use mathlib.Core.List.{List}
-use mathlib.Core.Bool.{true}
+use mathlib.Core.Bool.{Bool, true, false}
 use native.Mathlib.Omega.{arith}
 use native.Mathlib.Decide.{ℕ-discrete}
 use lib.ListN.{length, getD, set, length-set}
 use lib.Seq.{getD-set-same, getD-set-other}
-use lib.Dec.{leb}
-use borrow.Author.Tests.{leb-true}
 use Rattle.words.specs.Counting.{one, count}
-use Rattle.words.proofs.Laws.Choice.{le-ind, eq-ind, pick-ind, left, right}
+use Rattle.words.proofs.Laws.Choice.{le-ind, eq-ind, pick-ind}
 use Rattle.words.proofs.Laws.Counting.{count-one}
 use Rattle.common.specs.declared.Head.{Head}
 use Rattle.common.specs.declared.Writer.{Writer}
 use Rattle.common.specs.declared.Reader.{Reader}
 use Rattle.common.specs.declared.State.{State}
-use Rattle.common.specs.Calls.{Call, write, read, step}
+use Rattle.common.specs.Calls.{Call, write, read, step, retire}
 use Rattle.common.specs.Effects.{AtMostOne, as-it-was, one-set}
-use Rattle.common.specs.Head.{isProcessor}
-use Rattle.common.specs.State.{blank, readerAt, openIn, withWriter, withReader, writerBegins, readerBegins}
+use Rattle.common.specs.State.{blank, readerAt, isRetired, asCounted, openIn, withWriter, withReader, writerBegins, readerBegins, retires}
 use Rattle.common.specs.Rules.{Rules, stateOk, InRange}
 use Rattle.common.specs.SetUp.{Outcome}
-use Rattle.common.specs.Register.{asProcessor, beginWriteOf, beginReadOf, stepWriter, stepReader, stepOf, callOf}
+use Rattle.common.specs.Register.{beginWriteOf, beginReadOf, stepWriter, stepReader, stepOf, retireOf, callOf}
+use Rattle.common.proofs.Effects.{retires-still}
 use Rattle.common.proofs.HeadLaws.{head-moves}
 use Rattle.common.proofs.LogRows.{end-row, pick-length}
 use Rattle.common.proofs.Lawful.{Lawful}
-use Rattle.common.proofs.Range.{test-range, range-test}
+use Rattle.common.proofs.Asked.{as-processor, retired-at, counts}
+use Rattle.common.proofs.Range.{test-range, range-test, stands, reader-ok}
 
 -- A list with at most one place set has its length.
 pub one-length : (b : ℕ) (l m : List ℕ) → AtMostOne b l m → length m ≡ length l
@@ -56,29 +55,35 @@ module _ (R : Rules) (s : State) (cells log : ℕ) (g : Good R s cells log) wher
   }
 
   -- The same of a reader.
-  with-reader : (i : ℕ) (r : Reader) (used : ℕ) → i < s .head .n → R .readerOk (s .head .n) r ≡ true → s .head .used ≤ used
-      → used + one (r .active) + openIn s ≤ s .head .rows + one (readerAt s i .active) → Good R (withReader s i r (moved used)) cells log
-  with-reader i r used h k l f = record {
-    sized = simp length-set (g .sized);
-    ok = record {
-      head-ok = head-moves _ (s .head) (openIn s) cells log used _ l room (g .ok .head-ok);
-      writer-ok = g .ok .writer-ok;
-      readers-ok = λ j m. elim (ℕ-discrete j i) [ yes e ↦ rw (e, new) k | no e ↦ rw (old j e) (g .ok .readers-ok j m) ];
-    };
-  }
-    where
-      new : getD (set (s .readers) i r) i blank ≡ r
-      new = getD-set-same (s .readers) i r blank (omega (arith, g .sized, g .ok .head-ok .n-high))
+  module _ (i : ℕ) (r : Reader) (h : i < s .head .n) where
+    new : getD (set (s .readers) i r) i blank ≡ r
+    new = getD-set-same (s .readers) i r blank (omega (arith, g .sized, g .ok .head-ok .n-high))
 
-      old : (j : ℕ) → j ≢ i → getD (set (s .readers) i r) j blank ≡ getD (s .readers) j blank
-      old j e = getD-set-other (s .readers) i j r blank e
+    old : (j : ℕ) → j ≢ i → getD (set (s .readers) i r) j blank ≡ getD (s .readers) j blank
+    old j e = getD-set-other (s .readers) i j r blank e
 
-      c : count (s .head .n) (λ j. getD (set (s .readers) i r) j blank .active) + one (readerAt s i .active)
-          ≡ openIn s - one (s .writer .active) + one (getD (set (s .readers) i r) i blank .active)
-      c = omega (arith, count-one (s .head .n) (λ j. getD (set (s .readers) i r) j blank .active) (λ j. readerAt s j .active) i h (λ j e. ap (λ (x : Reader). x .active) (old j e)))
+    -- the operations that count as open, in the old state and in the new one
+    pub opens-with : (h′ : Head) → h′ .n ≡ s .head .n
+        → openIn (withReader s i r h′) + one (asCounted (readerAt s i) .active) ≡ openIn s + one (asCounted r .active)
+    opens-with h′ e =
+        let f : ℕ → Bool = λ j. asCounted (getD (set (s .readers) i r) j blank) .active in
+        rw e
+        (omega (
+          arith,
+          count-one (s .head .n) f (λ j. asCounted (readerAt s j) .active) i h (λ j e. ap (λ (x : Reader). asCounted x .active) (old j e)),
+          ap (λ (x : Reader). one (asCounted x .active)) new,
+        ))
 
-      room : used + openIn (withReader s i r (moved used)) ≤ s .head .rows
-      room = omega (arith, c, ap (λ (x : Reader). one (x .active)) new)
+    with-reader : (used : ℕ) → R .readerOk (s .head .n) (asCounted r) ≡ true → s .head .used ≤ used
+        → used + one (asCounted r .active) + openIn s ≤ s .head .rows + one (asCounted (readerAt s i) .active) → Good R (withReader s i r (moved used)) cells log
+    with-reader used k l f = record {
+      sized = simp length-set (g .sized);
+      ok = record {
+        head-ok = head-moves _ (s .head) (openIn s) cells log used _ l (omega (arith, f, opens-with (moved used) refl)) (g .ok .head-ok);
+        writer-ok = g .ok .writer-ok;
+        readers-ok = λ j m. elim (ℕ-discrete j i) [ yes e ↦ rw (e, new) k | no e ↦ rw (old j e) (g .ok .readers-ok j m) ];
+      };
+    }
 
 -- After a call.
 pub record Stays (R : Rules) (s : State) (t l : List ℕ) (o : Outcome) : Type 0 where
@@ -116,23 +121,28 @@ module _ (R : Rules) (W : Lawful R) (s : State) (t l : List ℕ) (g : Good R s (
       (λ _. same _ refl refl refl))
       (λ _. same _ refl refl refl))) (λ _. same _ refl refl refl)
 
-  -- What is asked of a call by processor p.
-  as-processor : (least p : ℕ) (o : Outcome) → (least ≤ p → p ≤ n → St o) → St (asProcessor s t l least p o)
-  as-processor least p o f =
-      pick-ind St (isProcessor (s .head) least p) _ _
-      (λ e. f (leb-true least p (left (leb least p) (leb p n) e)) (leb-true p n (right (leb least p) (leb p n) e))) (λ _. same _ refl refl refl)
+  -- Reader p, which is not retired, is replaced by one that is not either.
+  goes-on : (p : ℕ) → 1 ≤ p → p ≤ s .head .n → isRetired s p ≡ false → (r : Reader) (used : ℕ) → r .retired ≡ readerAt s (p - 1) .retired
+      → R .readerOk (s .head .n) r ≡ true → s .head .used ≤ used
+      → used + one (r .active) + openIn s ≤ s .head .rows + one (readerAt s (p - 1) .active)
+      → Good R (withReader s (p - 1) r (record { counted = s .head .counted; n = s .head .n; rows = s .head .rows; used = used })) (length t) (length l)
+  goes-on p p1 pn free r used e k h f =
+      let old = stands s p p1 free in
+      let new = counts r (e ∙ sym (retired-at s p (omega arith)) ∙ free) in
+      with-reader R s _ _ g (p - 1) r (omega arith) used (subst (λ (q : Reader). R .readerOk (s .head .n) q ≡ true) (sym new) k) h
+      (omega (arith, f, ap (λ (q : Reader). one (q .active)) new, ap (λ (q : Reader). one (q .active)) old))
 
   read-stays : (p : ℕ) → St (beginReadOf R s t l p)
   unfolding beginReadOf
-  read-stays p = pick-ind St (stateOk R s (length t) (length l)) _ _ (λ _. as-processor 1 p _ λ p1 pn.
+  read-stays p = pick-ind St (stateOk R s (length t) (length l)) _ _ (λ _. as-processor St s t l (same _ refl refl refl) (same _ refl refl refl) 1 p _ λ p1 pn free.
       pick-ind St (readerAt s (p - 1) .active) _ _ (λ _. same _ refl refl refl)
       (λ a. le-ind St (s .head .used + openIn s + 2) (s .head .rows) _ _
       (λ h. record {
         n-same = refl;
         cells-same = refl;
         rows-same = simp length-set;
-        good = with-reader R s _ _ g (p - 1) (readerBegins (readerAt s (p - 1))) (s .head .used + 1) (omega arith)
-            (W .reader-begins n (readerAt s (p - 1)) (g .ok .head-ok .n-low) (g .ok .readers-ok (p - 1) (omega arith))) (omega arith) (omega arith);
+        good = goes-on p p1 pn free (readerBegins (readerAt s (p - 1))) (s .head .used + 1) refl
+            (W .reader-begins n (readerAt s (p - 1)) (g .ok .head-ok .n-low) (reader-ok s p p1 free pn R _ _ (g .ok))) (omega arith) (omega arith);
       })
       (λ _. same _ refl refl refl))) (λ _. same _ refl refl refl)
 
@@ -148,32 +158,54 @@ module _ (R : Rules) (W : Lawful R) (s : State) (t l : List ℕ) (g : Good R s (
         good = with-writer R s _ _ g (q .writer) _ (W .writer-turn n (s .writer) t (g .ok .head-ok .n-low) (g .ok .head-ok .n-high) (g .ok .writer-ok) a) (f .0) (f .1);
       }
 
-  step-r-stays : (p : ℕ) → 1 ≤ p → p ≤ n → readerAt s (p - 1) .active ≡ true → St (stepReader R s t l p)
+  step-r-stays : (p : ℕ) → 1 ≤ p → p ≤ n → isRetired s p ≡ false → readerAt s (p - 1) .active ≡ true → St (stepReader R s t l p)
   unfolding stepReader
-  step-r-stays p h1 h2 a =
+  step-r-stays p h1 h2 free a =
       let r = readerAt s (p - 1) in
       let q = R .readStep n p r t in
-      let k = g .ok .readers-ok (p - 1) (omega arith) in
+      let k = reader-ok s p h1 free h2 R _ _ (g .ok) in
       let f = end-row (s .head .used) (s .head .rows) (openIn s) (r .active) (q .reader .active) (g .ok .head-ok .room) a in
       record {
         n-same = refl;
         cells-same = one-length (R .cells n) t (q .table) (W .read-cell n p r t h1 h2 k a);
         rows-same = pick-length l (q .reader .active) _ _;
-        good = with-reader R s _ _ g (p - 1) (q .reader) _ (omega arith) (W .reader-turn n p r t (g .ok .head-ok .n-low) (g .ok .head-ok .n-high) k a) (f .0) (f .1);
+        good = goes-on p h1 h2 free (q .reader) _ (W .retired-stays n p r t) (W .reader-turn n p r t (g .ok .head-ok .n-low) (g .ok .head-ok .n-high) k a) (f .0) (f .1);
       }
 
   step-stays : (p : ℕ) → St (stepOf R s t l p)
   unfolding stepOf
   step-stays p = pick-ind St (stateOk R s (length t) (length l)) _ _
-      (λ _. as-processor 0 p _ λ _ pn. eq-ind St p 0 _ _ (λ _. pick-ind St (s .writer .active) _ _ step-w-stays (λ _. same _ refl refl refl))
-      (λ ne. pick-ind St (readerAt s (p - 1) .active) _ _ (step-r-stays p (omega arith) pn) (λ _. same _ refl refl refl)))
+      (λ _. as-processor St s t l (same _ refl refl refl) (same _ refl refl refl) 0 p _ λ _ pn free.
+      eq-ind St p 0 _ _ (λ _. pick-ind St (s .writer .active) _ _ step-w-stays (λ _. same _ refl refl refl))
+      (λ ne. pick-ind St (readerAt s (p - 1) .active) _ _ (step-r-stays p (omega arith) pn free) (λ _. same _ refl refl refl)))
       (λ _. same _ refl refl refl)
+
+  -- A retirement leaves the buffers as they are, and of the state its operation counts no more.
+  abbrev After : Outcome → Type 0
+  After o = (o .state .head .n ≡ n) × Good R (o .state) (length t) (length l)
+
+  retires-good : (p : ℕ) → After (retireOf R s t l p)
+  unfolding retireOf
+  retires-good p = pick-ind After (stateOk R s (length t) (length l)) _ _
+      (λ _. as-processor After s t l (refl, g) (refl, g) 1 p _ λ p1 pn free. (
+        refl,
+        with-reader R s _ _ g (p - 1) (retires (readerAt s (p - 1))) (omega arith) (s .head .used)
+            (W .reader-retires n (readerAt s (p - 1)) (reader-ok s p p1 free pn R _ _ (g .ok))) (omega arith) (omega (arith, g .ok .head-ok .room)),
+      ))
+      (λ _. (refl, g))
+
+  retire-stays : (p : ℕ) → St (retireOf R s t l p)
+  retire-stays p =
+      let k = retires-good p in
+      let still = retires-still R s t l p in
+      record { n-same = k .0; cells-same = ap length (still .0); rows-same = ap length (still .1); good = k .1 }
 
   pub call-stays : (c : Call) → St (callOf R s t l c)
   unfolding callOf
   call-stays (write v) = write-stays v
   call-stays (read p) = read-stays p
   call-stays (step p) = step-stays p
+  call-stays (retire p) = retire-stays p
 
 -- "a state that passed 4 passes it again after the call"
 pub passes-again : (R : Rules) → Lawful R → (s : State) (t l : List ℕ) (c : Call) → length (s .readers) ≡ 16 → stateOk R s (length t) (length l) ≡ true

@@ -6,8 +6,8 @@ use mathlib.Core.Bool.{true, false, not}
 use lib.ListN.{length}
 use Rattle.common.specs.declared.Writer.{Writer}
 use Rattle.common.specs.declared.Reader.{Reader}
-use Rattle.common.specs.Effects.{AtMostOne}
-use Rattle.common.specs.State.{writerBegins, readerBegins, valueIn}
+use Rattle.common.specs.Effects.{OneWord, AtMostOne}
+use Rattle.common.specs.State.{asCounted, writerBegins, readerBegins, retires, valueIn}
 use Rattle.common.specs.Rules.{WriteStep, ReadStep, Rules}
 use Rattle.common.specs.SetUp.{freshWriter, freshReader}
 use Rattle.common.specs.Book.{Operation, idle, open-with, isOpen, Turn, Telling}
@@ -21,6 +21,10 @@ pub record Lawful (R : Rules) : Type 0 where
       → R .readerOk n (R .readStep n p r t .reader) ≡ true
   pub writer-begins : (n v : ℕ) (w : Writer) → 1 ≤ n → R .writerOk n w ≡ true → R .mayWrite w ≡ true → R .writerOk n (writerBegins w v) ≡ true
   pub reader-begins : (n : ℕ) (r : Reader) → 1 ≤ n → R .readerOk n r ≡ true → R .readerOk n (readerBegins r) ≡ true
+  -- and a reader that is retired does
+  pub reader-retires : (n : ℕ) (r : Reader) → R .readerOk n r ≡ true → R .readerOk n (asCounted (retires r)) ≡ true
+  -- a sub-step retires none
+  pub retired-stays : (n p : ℕ) (r : Reader) (t : List ℕ) → R .readStep n p r t .reader .retired ≡ r .retired
   pub fresh-writer : (n fresh : ℕ) → R .writerOk n (freshWriter fresh) ≡ true
   pub fresh-reader : (n : ℕ) → R .readerOk n freshReader ≡ true
   -- a sub-step sets at most one cell
@@ -29,6 +33,14 @@ pub record Lawful (R : Rules) : Type 0 where
   pub read-cell : (n p : ℕ) (r : Reader) (t : List ℕ) → 1 ≤ p → p ≤ n → R .readerOk n r ≡ true → r .active ≡ true
       → AtMostOne (R .cells n) t (R .readStep n p r t .table)
   pub fresh-length : (n v fresh : ℕ) → 1 ≤ n → length (R .freshCells n v fresh) ≡ R .cells n
+
+-- of where its cells stand, with n readers: one word a sub-step, and no cell of two processors
+pub record Wired (R : Rules) (place : ℕ → ℕ → ℕ → ℕ) (Has : ℕ → ℕ → ℕ → Type 0) : Type 0 where
+  pub one-owner : (n i j k m : ℕ) → Has n i j → Has n k m → place n i j ≡ place n k m → i ≡ k
+  pub write-word : (n : ℕ) (w : Writer) → 1 ≤ n → R .writerOk n w ≡ true → w .active ≡ true
+      → OneWord (place n) (Has n) 0 (λ t. R .writeStep n w t .writer) (λ t. R .writeStep n w t .table)
+  pub read-word : (n p : ℕ) (r : Reader) → 1 ≤ p → p ≤ n → R .readerOk n r ≡ true → r .active ≡ true
+      → OneWord (place n) (Has n) p (λ t. R .readStep n p r t .reader) (λ t. R .readStep n p r t .table)
 
 -- of both: the writer, and a reader, stand for a stamp and an operation of the book
 module _ {Stamp Cell : Type 0} (R : Rules) (B : Telling Stamp Cell) (WIs : ℕ → Writer → Stamp → Operation Cell → Type 0)
@@ -54,6 +66,7 @@ module _ {Stamp Cell : Type 0} (R : Rules) (B : Telling Stamp Cell) (WIs : ℕ �
     pub begin-w : (n v : ℕ) (w : Writer) (st : Stamp) → 1 ≤ n → WIs n w st idle → R .mayWrite w ≡ true
         → WIs n (writerBegins w v) st (open-with v 0 [])
     pub begin-r : (n : ℕ) (r : Reader) (st : Stamp) → 1 ≤ n → RIs n r st idle → RIs n (readerBegins r) st (open-with 0 0 [])
+    pub retire-r : (n : ℕ) (r : Reader) (st : Stamp) (q : Operation Cell) → RIs n r st q → RIs n (retires r) st q
     pub turn-w : (n : ℕ) → 1 ≤ n → n ≤ 16 → (T X : List ℕ) → length T ≡ R .cells n → (w : Writer) (st : Stamp) (v m : ℕ) (cells : List Cell)
         → R .writerOk n w ≡ true → WIs n w st (open-with v m cells)
         → WTurnRel n X (R .writeStep n w (T ++ X)) (B .writeTurn n T st v m cells)

@@ -2,7 +2,9 @@ pub mod HeadLaws
 pub mod LogRows
 pub mod Effects
 pub mod Lawful
+pub mod Asked
 pub mod Range
+pub mod Stands
 pub mod Keep
 pub mod Kind
 pub mod Unaltered

@@ -14,25 +14,26 @@ use Rattle.words.specs.Counting.{one}
 use Rattle.words.specs.Row.{rowOf}
 use Rattle.words.specs.Update.{upd}
 use Rattle.words.proofs.Laws.Choice.{pick-ind, pick-two, pick-both, pick-yes, pick-no, eq-two, left, right, never}
-use Rattle.words.proofs.Laws.Counting.{count-same, count-some}
+use Rattle.words.proofs.Laws.Counting.{count-same}
 use Rattle.words.proofs.Laws.Update.{upd-same, upd-other, upd-own}
-use Rattle.common.specs.Calls.{Call, write, read, step}
+use Rattle.common.specs.Calls.{Call, write, read, step, retire}
 use Rattle.common.specs.declared.Answer.the-variants.{Accepted, Moved}
 use Rattle.common.specs.declared.Refusal.{Refusal}
-use Rattle.common.specs.declared.Refusal.the-variants.{Range, Processor, Busy, Full, Idle, Spent}
+use Rattle.common.specs.declared.Refusal.the-variants.{Range, Processor, Retired, Busy, Full, Idle, Spent}
 use Rattle.common.specs.declared.Writer.{Writer}
 use Rattle.common.specs.declared.Reader.{Reader}
 use Rattle.common.specs.declared.State.{State}
 use Rattle.common.specs.Head.{isProcessor, began, stepped}
-use Rattle.common.specs.State.{blank, readerAt, openIn, withWriter, withReader, writerBegins, readerBegins, valueIn}
+use Rattle.common.specs.State.{blank, readerAt, isRetired, stillOpen, asCounted, openIn, withWriter, withReader, writerBegins, readerBegins, retires, valueIn}
 use Rattle.common.specs.Rules.{WriteStep, ReadStep, Rules, stateOk}
 use Rattle.common.specs.SetUp.{Outcome, refused}
-use Rattle.common.specs.Register.{asProcessor, beginWriteOf, beginReadOf, stepWriter, stepReader, stepOf, callOf}
-use Rattle.common.specs.Book.{Operation, idle, open-with, isOpen, Model, Turn, Telling, Told, openCount, declined, begun, ofProcessor, begins, beginsWrite, movesWrite, movesRead, told}
+use Rattle.common.specs.Register.{asProcessor, beginWriteOf, beginReadOf, stepWriter, stepReader, stepOf, retireOf, callOf}
+use Rattle.common.specs.Book.{Operation, idle, open-with, isOpen, Model, Turn, Telling, Told, openAt, openCount, declined, begun, ofProcessor, begins, beginsWrite, movesWrite, movesRead, withdrawn, told}
 use Rattle.common.proofs.LogRows.{rows-rel, row-same}
-use Rattle.common.proofs.Range.{range-test}
+use Rattle.common.proofs.Range.{range-test, reader-ok, reader-room}
+use Rattle.common.proofs.Asked.{retired-at, retired-own, retired-other}
 use Rattle.common.proofs.Keep.{Good}
-use Rattle.common.proofs.Lawful.{WTurnRel, RTurnRel, Simulates}
+use Rattle.common.proofs.Lawful.{Lawful, WTurnRel, RTurnRel, Simulates}
 
 module _ {Stamp Cell : Type 0} (R : Rules) (B : Telling Stamp Cell) (WIs : ℕ → Writer → Stamp → Operation Cell → Type 0)
     (RIs : ℕ → Reader → Stamp → Operation Cell → Type 0) where
@@ -44,12 +45,13 @@ module _ {Stamp Cell : Type 0} (R : Rules) (B : Telling Stamp Cell) (WIs : ℕ �
     pub log-is : l ≡ b .rows ++ drop (length (b .rows)) L
     pub writer-is : WIs (s .head .n) (s .writer) (b .stamp 0) (b .op 0)
     pub readers-are : (p : ℕ) → 1 ≤ p → p ≤ s .head .n → RIs (s .head .n) (readerAt s (p - 1)) (b .stamp p) (b .op p)
+    pub retired-are : (p : ℕ) → p ≤ s .head .n → isRetired s p ≡ b .retired p
 
   pub record CallRel (X L : List ℕ) (o : Outcome) (x : Told Stamp Cell) : Type 0 where
     pub answer-is : o .answer ≡ x .answer
     pub rel : Rel X L (o .state) (o .table) (o .log) (x .model)
 
-  module _ (S : Simulates R B WIs RIs) (X L : List ℕ) (s : State) (t l : List ℕ) (b : Model Stamp Cell) (g : Good R s (length t) (length l)) (A : Rel X L s t l b)
+  module _ (W : Lawful R) (S : Simulates R B WIs RIs) (X L : List ℕ) (s : State) (t l : List ℕ) (b : Model Stamp Cell) (g : Good R s (length t) (length l)) (A : Rel X L s t l b)
       (full : length L ≡ s .head .rows) where
     abbrev n : ℕ
     n = s .head .n
@@ -60,11 +62,18 @@ module _ {Stamp Cell : Type 0} (R : Rules) (B : Telling Stamp Cell) (WIs : ℕ �
     active-r : (p : ℕ) → 1 ≤ p → p ≤ n → readerAt s (p - 1) .active ≡ isOpen (b .op p)
     active-r p h1 h2 = S .open-r n _ (b .stamp p) (b .op p) (A .readers-are p h1 h2)
 
+    -- what counts as open of a reader
+    counts-r : (p : ℕ) → 1 ≤ p → p ≤ n → asCounted (readerAt s (p - 1)) .active ≡ openAt b p
+    counts-r p h1 h2 =
+        let gone : readerAt s (p - 1) .retired ≡ b .retired p = sym (retired-at s p (omega arith)) ∙ A .retired-are p h2 in
+        let active = active-r p h1 h2 in
+        λ i. stillOpen (gone i) (active i)
+
     open-is : openIn s ≡ openCount n b
     open-is = rw (
       active-w,
-      count-same n (λ i. readerAt s i .active) (λ i. isOpen (b .op (suc i)))
-          (λ i h. let e : suc i - 1 ≡ i = omega arith in rw e at (active-r (suc i) (omega arith) (omega arith))),
+      count-same n (λ i. asCounted (readerAt s i) .active) (λ i. openAt b (suc i))
+          (λ i h. let e : suc i - 1 ≡ i = omega arith in rw e at (counts-r (suc i) (omega arith) (omega arith))),
     )
 
     -- Rows with or without one more.
@@ -75,7 +84,7 @@ module _ {Stamp Cell : Type 0} (R : Rules) (B : Telling Stamp Cell) (WIs : ℕ �
 
     -- The book with another table, a row more or not, and processor p's stamp and operation.
     abbrev book : ℕ → List ℕ → Bool → ℕ → Stamp → Operation Cell → Model Stamp Cell
-    book p T′ a x st q = record { table = T′; rows = pick a (b .rows) (b .rows ++ x ∷ []); stamp = upd (b .stamp) p st; op = upd (b .op) p q }
+    book p T′ a x st q = record { table = T′; rows = pick a (b .rows) (b .rows ++ x ∷ []); stamp = upd (b .stamp) p st; op = upd (b .op) p q; retired = b .retired }
 
     -- The writer, and nothing else of the state and of the book's processors, is replaced.
     module _ (w : Writer) (a : Bool) (x : ℕ) (room : a ≡ false → s .head .used < s .head .rows) (t′ T′ : List ℕ) (te : t′ ≡ T′ ++ X) (sz : length T′ ≡ R .cells n)
@@ -88,11 +97,12 @@ module _ {Stamp Cell : Type 0} (R : Rules) (B : Telling Stamp Cell) (WIs : ℕ �
         log-is = y .1;
         writer-is = rw (upd-same (b .stamp) 0 st, upd-same (b .op) 0 q) k;
         readers-are = λ p h1 h2. rw (upd-other (b .stamp) 0 st p (omega arith), upd-other (b .op) 0 q p (omega arith)) (A .readers-are p h1 h2);
+        retired-are = A .retired-are;
       }
 
-    -- The same of reader p.
+    -- The same of reader p, which is as retired as it was.
     module _ (p : ℕ) (p1 : 1 ≤ p) (pn : p ≤ n) (r : Reader) (a : Bool) (x : ℕ) (room : a ≡ false → s .head .used < s .head .rows) (t′ T′ : List ℕ) (te : t′ ≡ T′ ++ X)
-        (sz : length T′ ≡ R .cells n) (st : Stamp) (q : Operation Cell) (k : RIs n r st q) where
+        (sz : length T′ ≡ R .cells n) (st : Stamp) (q : Operation Cell) (k : RIs n r st q) (kept : r .retired ≡ readerAt s (p - 1) .retired) where
       put-r : Rel X L (withReader s (p - 1) r (stepped (s .head) a)) t′ (pick a l (set l (s .head .used) x)) (book p T′ a x st q)
       put-r = let y = added a x room in record {
         table-is = te;
@@ -103,6 +113,10 @@ module _ {Stamp Cell : Type 0} (R : Rules) (B : Telling Stamp Cell) (WIs : ℕ �
         readers-are = λ j h1 h2. elim (ℕ-discrete j p) [
           | yes e ↦ rw (e, getD-set-same (s .readers) (p - 1) r blank (omega (arith, g .sized, g .ok .head-ok .n-high)), upd-same (b .stamp) p st, upd-same (b .op) p q) k
           | no e ↦ rw (getD-set-other (s .readers) (p - 1) (j - 1) r blank (omega arith), upd-other (b .stamp) p st j e, upd-other (b .op) p q j e) (A .readers-are j h1 h2)
+        ];
+        retired-are = λ j h. elim (ℕ-discrete j p) [
+          | yes e ↦ rw (e, retired-own s p r (stepped (s .head) a) p1 (omega (arith, g .sized, g .ok .head-ok .n-high)), kept, ← retired-at s p (omega arith)) (A .retired-are p pn)
+          | no e ↦ retired-other s p r (stepped (s .head) a) p1 j e ∙ A .retired-are j h
         ];
       }
 
@@ -141,12 +155,9 @@ module _ {Stamp Cell : Type 0} (R : Rules) (B : Telling Stamp Cell) (WIs : ℕ �
               (put-w (q .writer) (q .writer .active) (rowOf 2 0 0) (λ _. omega (arith, g .ok .head-ok .room, ap one a)) (q .table) (x .table) (T .table-is) (T .size-is) (x .stamp) (x .op) (T .is)));
         }
 
-    module _ (p : ℕ) (p1 : 1 ≤ p) (pn : p ≤ n) where
+    module _ (p : ℕ) (p1 : 1 ≤ p) (pn : p ≤ n) (free : isRetired s p ≡ false) where
       abbrev r₀ : Reader
       r₀ = readerAt s (p - 1)
-
-      room-r : r₀ .active ≡ true → s .head .used < s .head .rows
-      room-r e = omega (arith, g .ok .head-ok .room, count-some n (λ i. readerAt s i .active) (p - 1) (omega arith) e)
 
       step-r : (q : Operation Cell) → b .op p ≡ q → C (pick (r₀ .active) (stepReader R s t l p) (refused Idle s t l)) (movesRead B n b p q)
       unfolding stepReader
@@ -161,7 +172,7 @@ module _ {Stamp Cell : Type 0} (R : Rules) (B : Telling Stamp Cell) (WIs : ℕ �
 
           T : RTurnRel R B WIs RIs n X (R .readStep n p r₀ t) x
           T = subst (λ (y : List ℕ). RTurnRel R B WIs RIs n X (R .readStep n p r₀ y) x) (sym (A .table-is))
-              (S .turn-r n p (g .ok .head-ok .n-high) p1 pn (b .table) X (A .size-is) r₀ (b .stamp p) v m cells (g .ok .readers-ok (p - 1) (omega arith)) K)
+              (S .turn-r n p (g .ok .head-ok .n-high) p1 pn (b .table) X (A .size-is) r₀ (b .stamp p) v m cells (reader-ok s p p1 free pn R _ _ (g .ok)) K)
 
           q : ReadStep
           q = R .readStep n p r₀ t
@@ -177,14 +188,15 @@ module _ {Stamp Cell : Type 0} (R : Rules) (B : Telling Stamp Cell) (WIs : ℕ �
                 (sym (row-same (q .reader .active) (valueIn (q .reader .result)) (x .value) (λ e. T .value-is (sym still ∙ e)) l (λ y. set l (s .head .used) (rowOf 4 p y))))
                 (subst (λ (c : Bool). Rel X L (stepReader R s t l p .state) (q .table) (pick (q .reader .active) l (set l (s .head .used) (rowOf 4 p (x .value)))) (book p (x .table) c (rowOf 4 p (x .value)) (x .stamp) (x .op)))
                 still
-                (put-r p p1 pn (q .reader) (q .reader .active) (rowOf 4 p (x .value)) (λ _. room-r a) (q .table) (x .table) (T .table-is) (T .size-is) (x .stamp) (x .op) (T .is)));
+                (put-r p p1 pn (q .reader) (q .reader .active) (rowOf 4 p (x .value)) (λ _. reader-room s p p1 free pn R _ _ (g .ok) a) (q .table) (x .table) (T .table-is) (T .size-is) (x .stamp) (x .op) (T .is) (W .retired-stays n p r₀ t)));
           }
 
     -- What is asked of a call by processor p.
-    as-processor : (least p : ℕ) (o : Outcome) (x : Told Stamp Cell) → (least ≤ p → p ≤ n → C o x) → C (asProcessor s t l least p o) (ofProcessor n b least p x)
+    as-processor : (least p : ℕ) (o : Outcome) (x : Told Stamp Cell) → (least ≤ p → p ≤ n → isRetired s p ≡ false → C o x) → C (asProcessor s t l least p o) (ofProcessor n b least p x)
     as-processor least p o x f =
         pick-two C (isProcessor (s .head) least p) _ _ _ _
-        (λ e. f (leb-true least p (left (leb least p) (leb p n) e)) (leb-true p n (right (leb least p) (leb p n) e))) (λ _. same Processor)
+        (λ e. let pn = leb-true p n (right (leb least p) (leb p n) e) in
+        pick-both C _ _ _ _ _ _ (A .retired-are p pn) (λ _. same Retired) (f (leb-true least p (left (leb least p) (leb p n) e)) pn)) (λ _. same Processor)
 
     passes : stateOk R s (length t) (length l) ≡ true
     passes = range-test R s (length t) (length l) (g .ok)
@@ -192,7 +204,7 @@ module _ {Stamp Cell : Type 0} (R : Rules) (B : Telling Stamp Cell) (WIs : ℕ �
     step-rel : (p : ℕ) → C (stepOf R s t l p) (told B n (s .head .rows) b (step p))
     unfolding stepOf told
     step-rel p = rw (passes, pick-yes true _ (refused Range s t l) refl)
-        (as-processor 0 p _ _ λ _ pn. eq-two C p 0 _ _ _ _ (λ _. step-w (b .op 0) refl) (λ ne. step-r p (omega arith) pn (b .op p) refl))
+        (as-processor 0 p _ _ λ _ pn free. eq-two C p 0 _ _ _ _ (λ _. step-w (b .op 0) refl) (λ ne. step-r p (omega arith) pn free (b .op p) refl))
 
     room-is : leb (s .head .used + openIn s + 2) (s .head .rows) ≡ leb (length (b .rows) + openCount n b + 2) (s .head .rows)
     room-is = ap (λ (k : ℕ). leb k (s .head .rows)) (omega (arith, A .used-is, open-is))
@@ -206,7 +218,7 @@ module _ {Stamp Cell : Type 0} (R : Rules) (B : Telling Stamp Cell) (WIs : ℕ �
         → Rel X L s′ t l′ (begun b p kind v .model)
     begun-is p kind v s′ l′ =
         subst
-        (λ (st : ℕ → Stamp). Rel X L s′ t l′ (record { table = b .table; rows = b .rows ++ rowOf kind p v ∷ []; stamp = st; op = upd (b .op) p (open-with v 0 []) }))
+        (λ (st : ℕ → Stamp). Rel X L s′ t l′ (record { table = b .table; rows = b .rows ++ rowOf kind p v ∷ []; stamp = st; op = upd (b .op) p (open-with v 0 []); retired = b .retired }))
         (fun-ext (upd-own (b .stamp) p))
 
     write-rel : (v : ℕ) → C (beginWriteOf R s t l v) (told B n (s .head .rows) b (write v))
@@ -235,7 +247,7 @@ module _ {Stamp Cell : Type 0} (R : Rules) (B : Telling Stamp Cell) (WIs : ℕ �
 
     read-rel : (p : ℕ) → C (beginReadOf R s t l p) (told B n (s .head .rows) b (read p))
     unfolding beginReadOf told begins
-    read-rel p = rw (passes, pick-yes true _ (refused Range s t l) refl) (as-processor 1 p _ _ λ p1 pn.
+    read-rel p = rw (passes, pick-yes true _ (refused Range s t l) refl) (as-processor 1 p _ _ λ p1 pn _.
         pick-both C _ _ _ _ _ _ (active-r p p1 pn) (λ _. same Busy)
         (λ a. pick-both C _ _ _ _ _ _ room-is (λ h. record { answer-is = refl; rel = opens p1 pn a (leb-true _ _ h) }) (λ _. same Full)))
       where
@@ -248,10 +260,35 @@ module _ {Stamp Cell : Type 0} (R : Rules) (B : Telling Stamp Cell) (WIs : ℕ �
             begun-is p 3 0 _ _
             (put-r p p1 pn next false (rowOf 3 p 0) (λ _. omega arith) t (b .table) (A .table-is) (A .size-is) (b .stamp p) (open-with 0 0 [])
             (S .begin-r n (readerAt s (p - 1)) (b .stamp p) (g .ok .head-ok .n-low)
-            (subst (RIs n (readerAt s (p - 1)) (b .stamp p)) (idle-is p (b .op p) refl (sym (active-r p p1 pn) ∙ a)) (A .readers-are p p1 pn))))
+            (subst (RIs n (readerAt s (p - 1)) (b .stamp p)) (idle-is p (b .op p) refl (sym (active-r p p1 pn) ∙ a)) (A .readers-are p p1 pn))) refl)
+
+    retire-rel : (p : ℕ) → C (retireOf R s t l p) (told B n (s .head .rows) b (retire p))
+    unfolding retireOf told
+    retire-rel p = rw (passes, pick-yes true _ (refused Range s t l) refl) (as-processor 1 p _ _ λ p1 pn _. record { answer-is = refl; rel = gone p1 pn })
+      where
+        next : Reader
+        next = retires (readerAt s (p - 1))
+
+        gone : 1 ≤ p → p ≤ n → Rel X L (withReader s (p - 1) next (s .head)) t l (withdrawn b p)
+        gone p1 pn = record {
+          table-is = A .table-is;
+          size-is = A .size-is;
+          used-is = A .used-is;
+          log-is = A .log-is;
+          writer-is = A .writer-is;
+          readers-are = λ j h1 h2. elim (ℕ-discrete j p) [
+            | yes e ↦ rw (e, getD-set-same (s .readers) (p - 1) next blank (omega (arith, g .sized, g .ok .head-ok .n-high))) (S .retire-r n (readerAt s (p - 1)) (b .stamp p) (b .op p) (A .readers-are p p1 pn))
+            | no e ↦ rw (getD-set-other (s .readers) (p - 1) (j - 1) next blank (omega arith)) (A .readers-are j h1 h2)
+          ];
+          retired-are = λ j h. elim (ℕ-discrete j p) [
+            | yes e ↦ rw (e, upd-same (b .retired) p true) (retired-own s p next (s .head) p1 (omega (arith, g .sized, g .ok .head-ok .n-high)))
+            | no e ↦ rw (upd-other (b .retired) p true j e) (retired-other s p next (s .head) p1 j e ∙ A .retired-are j h)
+          ];
+        }
 
     pub call-rel : (c : Call) → C (callOf R s t l c) (told B n (s .head .rows) b c)
     unfolding callOf
     call-rel (write v) = write-rel v
     call-rel (read p) = read-rel p
     call-rel (step p) = step-rel p
+    call-rel (retire p) = retire-rel p

@@ -1,8 +1,8 @@
 -- Whole runs: from an accepted set-up, the calls and the book stay related.
-use Prim.Native.Nat.{ℕ, _+_, _-_, _^_, _≤_, _<_}
+use Prim.Native.Nat.{ℕ, zero, suc, _+_, _-_, _^_, _≤_, _<_}
 use mathlib.Core.Path.{_≡_, refl, sym, ap, _∙_}
 use mathlib.Core.List.{List, [], _∷_, _++_}
-use mathlib.Core.Bool.{true, not, _&&_}
+use mathlib.Core.Bool.{Bool, true, false, not, _&&_}
 use native.Mathlib.Omega.{arith}
 use lib.ListN.{length, getD, set, drop, replicate, length-set, length-append, length-drop, getD-replicate}
 use lib.Seq.{drop-at, drop-set-lt}
@@ -11,7 +11,7 @@ use borrow.Author.Tests.{leb-true}
 use Rattle.words.proofs.Laws.Choice.{pick-ind, le-ind, left, right}
 use Rattle.words.proofs.Laws.Counting.{count-nowhere}
 use Rattle.common.specs.Answers.{numberOf, never4}
-use Rattle.common.specs.Calls.{Call, write, read, step}
+use Rattle.common.specs.Calls.{Call, write, read, step, retire}
 use Rattle.common.specs.declared.Answer.the-variants.{Accepted}
 use Rattle.common.specs.declared.Refusal.{Refusal}
 use Rattle.common.specs.declared.Refusal.the-variants.{Readers, Cells, Rows}
@@ -19,7 +19,7 @@ use Rattle.common.specs.declared.Writer.{Writer}
 use Rattle.common.specs.declared.Reader.{Reader}
 use Rattle.common.specs.declared.State.{State}
 use Rattle.common.specs.Effects.{SetsUp}
-use Rattle.common.specs.State.{blank, readerAt}
+use Rattle.common.specs.State.{blank, readerAt, isRetired, asCounted}
 use Rattle.common.specs.Rules.{Rules}
 use Rattle.common.specs.SetUp.{Outcome, refused, freshReader, freshState, startRow, setUpOf}
 use Rattle.common.specs.Register.{callOf, Ran, runOf}
@@ -28,6 +28,7 @@ use Rattle.common.specs.Whole.{modelOf}
 use Rattle.common.proofs.LogRows.{start-rows}
 use Rattle.common.proofs.Range.{range-test}
 use Rattle.common.proofs.Lawful.{Lawful, Simulates}
+use Rattle.common.proofs.Asked.{of-processor}
 use Rattle.common.proofs.Keep.{Good, call-stays}
 use Rattle.common.proofs.Refine.{Rel, call-rel}
 
@@ -63,7 +64,7 @@ module _ {Stamp Cell : Type 0} (R : Rules) (B : Telling Stamp Cell) (WIs : ℕ �
         let o = callOf R s t l c in
         let x = told B (s .head .n) (s .head .rows) b c in
         let k = call-stays R W s t l g c in
-        let C = call-rel R B WIs RIs S X L s t l b g A full c in
+        let C = call-rel R B WIs RIs W S X L s t l b g A full c in
         let rs : o .state .head .rows ≡ s .head .rows = sym (k .good .ok .head-ok .log-is) ∙ g .ok .head-ok .log-is in
         let g′ : Good R (o .state) (length (o .table)) (length (o .log)) = rw (k .cells-same, k .rows-same) (k .good) in
         let z = run-rel X L cs (o .state) (o .table) (o .log) (x .model) g′ (C .rel) (full ∙ sym rs) in
@@ -102,7 +103,7 @@ module _ {Stamp Cell : Type 0} (R : Rules) (B : Telling Stamp Cell) (WIs : ℕ �
             rows-low = l3;
             rows-high = l4;
             used-low = omega arith;
-            room = omega (arith, count-nowhere n (λ i. readerAt s₀ i .active) (λ i h. ap (λ (r : Reader). r .active) (all-alike i (omega arith))));
+            room = omega (arith, count-nowhere n (λ i. asCounted (readerAt s₀ i) .active) (λ i h. ap (λ (r : Reader). asCounted r .active) (all-alike i (omega arith))));
           };
           writer-ok = W .fresh-writer n fresh;
           readers-ok = λ i h. rw (all-alike i (omega arith)) (W .fresh-reader n);
@@ -117,7 +118,16 @@ module _ {Stamp Cell : Type 0} (R : Rules) (B : Telling Stamp Cell) (WIs : ℕ �
         log-is = start-rows l (startRow n v) l3;
         writer-is = S .fresh-w n fresh low;
         readers-are = λ p h1 h2. rw (all-alike (p - 1) (omega arith)) (S .fresh-r n fresh p h1);
+        retired-are = λ p h. none p h;
       }
+        where
+          none : (p : ℕ) → p ≤ n → isRetired s₀ p ≡ false
+          none zero h = refl
+          none (suc k) h = rw (all-alike (suc k - 1) (omega arith)) (at (eqb (suc k) 0))
+            where
+              at : (b : Bool) → (not b && false) ≡ false
+              at true = refl
+              at false = refl
 
     module _ (n v fresh : ℕ) (low : fresh < 2 ^ 32) (t l : List ℕ) (cs : List Call) where
       abbrev Leads : Outcome → Type 0
@@ -172,7 +182,7 @@ module _ {Stamp Cell : Type 0} (B : Telling Stamp Cell) (n len : ℕ) where
   begins-fine b p x h = pick-ind Fine (isOpen (b .op p)) _ _ (λ _. refl) (λ _. le-ind Fine _ len _ _ (λ _. h) (λ _. refl))
 
   of-fine : (b : Model Stamp Cell) (least p : ℕ) (x : Told Stamp Cell) → Fine x → Fine (ofProcessor n b least p x)
-  of-fine b least p x h = pick-ind Fine (leb least p && leb p n) _ _ (λ _. h) (λ _. refl)
+  of-fine b least p x h = of-processor Fine n b refl refl least p x (λ _ _ _. h)
 
   told-fine : (b : Model Stamp Cell) (c : Call) → Fine (told B n len b c)
   unfolding told
@@ -187,6 +197,7 @@ module _ {Stamp Cell : Type 0} (B : Telling Stamp Cell) (n len : ℕ) where
       at-r : (q : Operation Cell) → Fine (movesRead B n b p q)
       at-r idle = refl
       at-r (open-with v m cells) = refl
+  told-fine b (retire p) = of-fine b 1 p _ refl
 
   pub kept-fine : (b : Model Stamp Cell) (cs : List Call) → never4 (kept B n len b cs .answers) ≡ true
   unfolding kept

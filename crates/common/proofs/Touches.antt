@@ -2,27 +2,24 @@
 use Prim.Native.Nat.{ℕ, _+_, _-_, _≤_}
 use mathlib.Core.Path.{_≡_, ap}
 use mathlib.Core.List.{List}
-use mathlib.Core.Bool.{true}
+use mathlib.Core.Bool.{true, false}
 use native.Mathlib.Omega.{arith}
 use lib.ListN.{length}
-use lib.Dec.{leb}
-use borrow.Author.Tests.{leb-true}
 use Rattle.words.specs.Counting.{one}
 use Rattle.words.specs.Row.{rowOf}
-use Rattle.words.proofs.Laws.Choice.{pick-ind, le-ind, eq-ind, left, right}
-use Rattle.words.proofs.Laws.Counting.{count-some}
-use Rattle.common.specs.Calls.{Call, write, read, step}
+use Rattle.words.proofs.Laws.Choice.{pick-ind, le-ind, eq-ind}
+use Rattle.common.specs.Calls.{Call, write, read, step, retire}
 use Rattle.common.specs.Effects.{as-it-was, one-set, Touches}
 use Rattle.common.specs.declared.Refusal.{Refusal}
 use Rattle.common.specs.declared.State.{State}
-use Rattle.common.specs.Head.{isProcessor}
-use Rattle.common.specs.State.{readerAt, openIn, valueIn}
+use Rattle.common.specs.State.{readerAt, isRetired, openIn, valueIn}
 use Rattle.common.specs.Rules.{Rules, stateOk, InRange}
 use Rattle.common.specs.SetUp.{Outcome, refused}
-use Rattle.common.specs.Register.{asProcessor, beginWriteOf, beginReadOf, stepWriter, stepReader, stepOf, callOf}
+use Rattle.common.specs.Register.{asProcessor, beginWriteOf, beginReadOf, stepWriter, stepReader, stepOf, retireOf, callOf}
 use Rattle.common.proofs.Effects.{row-or}
 use Rattle.common.proofs.Lawful.{Lawful}
-use Rattle.common.proofs.Range.{test-range}
+use Rattle.common.proofs.Asked.{as-processor}
+use Rattle.common.proofs.Range.{test-range, reader-ok, reader-room}
 
 module _ (R : Rules) (W : Lawful R) (s : State) (t l : List ℕ) where
   abbrev To : Outcome → Type 0
@@ -34,10 +31,8 @@ module _ (R : Rules) (W : Lawful R) (s : State) (t l : List ℕ) where
   nothing : (r : Refusal) → To (refused r s t l)
   nothing r = record { one-cell = as-it-was; one-row = as-it-was }
 
-  as-processor : (least p : ℕ) (o : Outcome) → (least ≤ p → p ≤ n → To o) → To (asProcessor s t l least p o)
-  as-processor least p o f =
-      pick-ind To (isProcessor (s .head) least p) _ _
-      (λ e. f (leb-true least p (left (leb least p) (leb p n) e)) (leb-true p n (right (leb least p) (leb p n) e))) (λ _. nothing _)
+  asked : (least p : ℕ) (o : Outcome) → (least ≤ p → p ≤ n → isRetired s p ≡ false → To o) → To (asProcessor s t l least p o)
+  asked = as-processor To s t l (nothing _) (nothing _)
 
   write-touches : (v : ℕ) → To (beginWriteOf R s t l v)
   unfolding beginWriteOf
@@ -53,7 +48,7 @@ module _ (R : Rules) (W : Lawful R) (s : State) (t l : List ℕ) where
   unfolding beginReadOf
   read-touches p =
       pick-ind To (stateOk R s (length t) (length l)) _ _
-      (λ _. as-processor 1 p _ λ _ _. pick-ind To (readerAt s (p - 1) .active) _ _ (λ _. nothing _)
+      (λ _. asked 1 p _ λ _ _ _. pick-ind To (readerAt s (p - 1) .active) _ _ (λ _. nothing _)
       (λ _. le-ind To (s .head .used + openIn s + 2) (s .head .rows) _ _
       (λ h. record { one-cell = as-it-was; one-row = one-set (s .head .used) _ (omega arith) }) (λ _. nothing _)))
       (λ _. nothing _)
@@ -66,14 +61,14 @@ module _ (R : Rules) (W : Lawful R) (s : State) (t l : List ℕ) where
       one-row = row-or (s .head .rows) (s .head .used) l (R .writeStep n (s .writer) t .writer .active) (rowOf 2 0 0) (omega (arith, k .head-ok .room, ap one a));
     }
 
-    reader-touches : (p : ℕ) → 1 ≤ p → p ≤ n → readerAt s (p - 1) .active ≡ true → To (stepReader R s t l p)
+    reader-touches : (p : ℕ) → 1 ≤ p → p ≤ n → isRetired s p ≡ false → readerAt s (p - 1) .active ≡ true → To (stepReader R s t l p)
     unfolding stepReader
-    reader-touches p p1 pn a =
+    reader-touches p p1 pn free a =
         let q = R .readStep n p (readerAt s (p - 1)) t .reader in
         record {
-          one-cell = W .read-cell n p (readerAt s (p - 1)) t p1 pn (k .readers-ok (p - 1) (omega arith)) a;
+          one-cell = W .read-cell n p (readerAt s (p - 1)) t p1 pn (reader-ok s p p1 free pn R _ _ k) a;
           one-row = row-or (s .head .rows) (s .head .used) l (q .active) (rowOf 4 p (valueIn (q .result)))
-              (omega (arith, k .head-ok .room, count-some n (λ i. readerAt s i .active) (p - 1) (omega arith) a));
+              (reader-room s p p1 free pn R _ _ k a);
         }
 
   step-touches : (p : ℕ) → To (stepOf R s t l p)
@@ -82,9 +77,16 @@ module _ (R : Rules) (W : Lawful R) (s : State) (t l : List ℕ) where
       pick-ind To (stateOk R s (length t) (length l)) _ _
       (λ e.
       let k = test-range R s (length t) (length l) e in
-      as-processor 0 p _ λ _ pn. eq-ind To p 0 _ _
+      asked 0 p _ λ _ pn free. eq-ind To p 0 _ _
       (λ _. pick-ind To (s .writer .active) _ _ (writer-touches k) (λ _. nothing _))
-      (λ ne. pick-ind To (readerAt s (p - 1) .active) _ _ (reader-touches k p (omega arith) pn) (λ _. nothing _)))
+      (λ ne. pick-ind To (readerAt s (p - 1) .active) _ _ (reader-touches k p (omega arith) pn free) (λ _. nothing _)))
+      (λ _. nothing _)
+
+  retire-touches : (p : ℕ) → To (retireOf R s t l p)
+  unfolding retireOf
+  retire-touches p =
+      pick-ind To (stateOk R s (length t) (length l)) _ _
+      (λ _. asked 1 p _ λ _ _ _. record { one-cell = as-it-was; one-row = as-it-was })
       (λ _. nothing _)
 
   pub call-touches : (c : Call) → To (callOf R s t l c)
@@ -92,3 +94,4 @@ module _ (R : Rules) (W : Lawful R) (s : State) (t l : List ℕ) where
   call-touches (write v) = write-touches v
   call-touches (read p) = read-touches p
   call-touches (step p) = step-touches p
+  call-touches (retire p) = retire-touches p

@@ -7,17 +7,18 @@ use lib.ListN.{length}
 use lib.Dec.{eqb}
 use Rattle.words.specs.Choice.{pick}
 use Rattle.words.proofs.Laws.Choice.{pick-ind, never}
-use Rattle.common.specs.Calls.{Call, write, read, step}
+use Rattle.common.specs.Calls.{Call, write, read, step, retire}
 use Rattle.common.specs.declared.Answer.{Answer}
 use Rattle.common.specs.declared.Answer.the-variants.{Accepted, Moved, Refused}
 use Rattle.common.specs.declared.Refusal.{Refusal}
 use Rattle.common.specs.declared.State.{State}
 use Rattle.common.specs.Effects.{Unaltered}
-use Rattle.common.specs.Head.{isProcessor, hasRoom}
+use Rattle.common.specs.Head.{hasRoom}
 use Rattle.common.specs.State.{readerAt, openIn}
 use Rattle.common.specs.Rules.{Rules, stateOk}
 use Rattle.common.specs.SetUp.{Outcome, refused}
-use Rattle.common.specs.Register.{inRange, asProcessor, beginWriteOf, beginReadOf, stepWriter, stepReader, stepOf, callOf}
+use Rattle.common.specs.Register.{inRange, asProcessor, beginWriteOf, beginReadOf, stepWriter, stepReader, stepOf, retireOf, callOf}
+use Rattle.common.proofs.Asked.{as-processor}
 
 abbrev isRefused : Answer → Bool
 isRefused Accepted = false
@@ -40,8 +41,8 @@ module _ (R : Rules) (s : State) (t l : List ℕ) where
   in-range : (o : Outcome) → Keeps o → Keeps (inRange R s t l o)
   in-range o h = pick-ind Keeps (stateOk R s (length t) (length l)) _ _ (λ _. h) (λ _. refuses _)
 
-  as-processor : (least p : ℕ) (o : Outcome) → Keeps o → Keeps (asProcessor s t l least p o)
-  as-processor least p o h = pick-ind Keeps (isProcessor (s .head) least p) _ _ (λ _. h) (λ _. refuses _)
+  asked : (least p : ℕ) (o : Outcome) → Keeps o → Keeps (asProcessor s t l least p o)
+  asked least p o h = as-processor Keeps s t l (refuses _) (refuses _) least p o (λ _ _ _. h)
 
   -- question 7, and then o
   if-room : (o : Outcome) → Keeps o → (r : Refusal) → Keeps (pick (hasRoom (s .head) (openIn s)) o (refused r s t l))
@@ -54,13 +55,17 @@ module _ (R : Rules) (s : State) (t l : List ℕ) where
 
   read-keeps : (p : ℕ) → Keeps (beginReadOf R s t l p)
   unfolding beginReadOf
-  read-keeps p = in-range _ (as-processor 1 p _ (pick-ind Keeps (readerAt s (p - 1) .active) _ _ (λ _. refuses _) (λ _. if-room _ (takes _ refl) _)))
+  read-keeps p = in-range _ (asked 1 p _ (pick-ind Keeps (readerAt s (p - 1) .active) _ _ (λ _. refuses _) (λ _. if-room _ (takes _ refl) _)))
 
   step-keeps : (p : ℕ) → Keeps (stepOf R s t l p)
   unfolding stepOf stepWriter stepReader
-  step-keeps p = in-range _ (as-processor 0 p _ (pick-ind Keeps (eqb p 0) _ _
+  step-keeps p = in-range _ (asked 0 p _ (pick-ind Keeps (eqb p 0) _ _
       (λ _. pick-ind Keeps (s .writer .active) _ _ (λ _. takes _ refl) (λ _. refuses _))
       (λ _. pick-ind Keeps (readerAt s (p - 1) .active) _ _ (λ _. takes _ refl) (λ _. refuses _))))
+
+  retire-keeps : (p : ℕ) → Keeps (retireOf R s t l p)
+  unfolding retireOf
+  retire-keeps p = in-range _ (asked 1 p _ (takes _ refl))
 
   -- "A no gives its number and alters nothing."
   pub call-unaltered : (c : Call) (r : Refusal) → callOf R s t l c .answer ≡ Refused r → Unaltered s t l (callOf R s t l c)
@@ -68,3 +73,4 @@ module _ (R : Rules) (s : State) (t l : List ℕ) where
   call-unaltered (write v) = write-keeps v
   call-unaltered (read p) = read-keeps p
   call-unaltered (step p) = step-keeps p
+  call-unaltered (retire p) = retire-keeps p

@@ -3,18 +3,18 @@
 -- register tells in words of its own (Telling); with the calls' definitions the book shares packing, places, calls and answers.
 use Prim.Native.Nat.{ℕ, suc, _+_}
 use mathlib.Core.List.{List, [], _∷_, _++_}
-use mathlib.Core.Bool.{Bool, true, false, _&&_}
+use mathlib.Core.Bool.{Bool, true, false, not, _&&_}
 use lib.ListN.{length}
 use lib.Dec.{leb, eqb}
 use Rattle.words.specs.Choice.{pick}
 use Rattle.words.specs.Update.{upd}
 use Rattle.words.specs.Counting.{one, count}
 use Rattle.words.specs.Row.{rowOf}
-use Rattle.common.specs.Calls.{Call, write, read, step}
+use Rattle.common.specs.Calls.{Call, write, read, step, retire}
 use Rattle.common.specs.declared.Answer.{Answer}
 use Rattle.common.specs.declared.Answer.the-variants.{Accepted, Moved, Refused}
 use Rattle.common.specs.declared.Refusal.{Refusal}
-use Rattle.common.specs.declared.Refusal.the-variants.{Processor, Busy, Full, Idle, Spent}
+use Rattle.common.specs.declared.Refusal.the-variants.{Processor, Retired, Busy, Full, Idle, Spent}
 
 -- "each processor idle, or open with a write's reading, its words moved and the cells it read"
 pub data Operation (Cell : Type 0) : Type 0 where
@@ -25,12 +25,13 @@ abbrev pub isOpen : {Cell : Type 0} → Operation Cell → Bool
 isOpen idle = false
 isOpen (open-with v m cells) = true
 
--- "a fresh table; a log with row 0; the writer's stamp ..; each reader's stamp"
+-- "a fresh table; a log with row 0; the writer's stamp ..; each reader's stamp"; (02) "the book keeps that set", of retired readers
 pub record Model (Stamp Cell : Type 0) : Type 0 where
   pub table : List ℕ
   pub rows : List ℕ
   pub stamp : ℕ → Stamp
   pub op : ℕ → Operation Cell
+  pub retired : ℕ → Bool
 
 -- what an operation's sub-step leaves: the operation, the processor's stamp, the table, and the value of the end row
 pub record Turn (Stamp Cell : Type 0) : Type 0 where
@@ -62,8 +63,12 @@ pub record Kept (Stamp Cell : Type 0) : Type 0 where
   pub model : Model Stamp Cell
 
 module _ {Stamp Cell : Type 0} where
+  -- (02) "a retired reader's operation is open there no longer"
+  abbrev pub openAt : Model Stamp Cell → ℕ → Bool
+  openAt b p = not (b .retired p) && isOpen (b .op p)
+
   abbrev pub openCount : ℕ → Model Stamp Cell → ℕ
-  openCount n b = one (isOpen (b .op 0)) + count n (λ i. isOpen (b .op (suc i)))
+  openCount n b = one (isOpen (b .op 0)) + count n (λ i. openAt b (suc i))
 
   -- "A refused call changes nothing."
   abbrev pub declined : Refusal → Model Stamp Cell → Told Stamp Cell
@@ -78,12 +83,13 @@ module _ {Stamp Cell : Type 0} where
       rows = b .rows ++ (rowOf kind p v ∷ []);
       stamp = b .stamp;
       op = upd (b .op) p (open-with v 0 []);
+      retired = b .retired;
     };
   }
 
-  -- question 5, and then x
+  -- question 5, (02) "and asks 13 in its place", and then x
   abbrev pub ofProcessor : ℕ → Model Stamp Cell → ℕ → ℕ → Told Stamp Cell → Told Stamp Cell
-  ofProcessor n b least p x = pick (leb least p && leb p n) x (declined Processor b)
+  ofProcessor n b least p x = pick (leb least p && leb p n) (pick (b .retired p) (declined Retired b) x) (declined Processor b)
 
   -- questions 6 and 7, and then x. Of len rows, those free are len less the book's.
   unfoldable pub begins : ℕ → ℕ → Model Stamp Cell → ℕ → Told Stamp Cell → Told Stamp Cell
@@ -99,6 +105,17 @@ module _ {Stamp Cell : Type 0} where
     rows = pick (isOpen (x .op)) (b .rows) (b .rows ++ (rowOf kind p (x .value) ∷ []));
     stamp = upd (b .stamp) p (x .stamp);
     op = upd (b .op) p (x .op);
+    retired = b .retired;
+  }
+
+  -- (02) "Add a call that retires a reader": it is in the set, and nothing else changes
+  abbrev pub withdrawn : Model Stamp Cell → ℕ → Model Stamp Cell
+  withdrawn b p = record {
+    table = b .table;
+    rows = b .rows;
+    stamp = b .stamp;
+    op = b .op;
+    retired = upd (b .retired) p true;
   }
 
 module _ {Stamp Cell : Type 0} (B : Telling Stamp Cell) where
@@ -118,11 +135,12 @@ module _ {Stamp Cell : Type 0} (B : Telling Stamp Cell) where
   movesRead n b p (open-with v m cells) =
       record { answer = Moved (m + 1); model = entered b p 4 (B .readTurn n p (b .table) (b .stamp p) m cells) }
 
-  -- "Questions 5 to 8 are asked of the book; in a list question 4 refuses nothing."; and 14
+  -- "Questions 5 to 8 are asked of the book; in a list question 4 refuses nothing."; and 13 and 14
   unfoldable pub told : ℕ → ℕ → Model Stamp Cell → Call → Told Stamp Cell
   told n len b (write v) = begins n len b 0 (beginsWrite b v)
   told n len b (read p) = ofProcessor n b 1 p (begins n len b p (begun b p 3 0))
   told n len b (step p) = ofProcessor n b 0 p (pick (eqb p 0) (movesWrite n b (b .op 0)) (movesRead n b p (b .op p)))
+  told n len b (retire p) = ofProcessor n b 1 p (record { answer = Accepted; model = withdrawn b p })
 
   abbrev pub freshModel : ℕ → ℕ → ℕ → Model Stamp Cell
   freshModel n v fresh = record {
@@ -130,6 +148,7 @@ module _ {Stamp Cell : Type 0} (B : Telling Stamp Cell) where
     rows = rowOf 5 n v ∷ [];
     stamp = B .freshStamp fresh;
     op = λ _. idle;
+    retired = λ _. false;
   }
 
   unfoldable pub kept : ℕ → ℕ → Model Stamp Cell → List Call → Kept Stamp Cell

@@ -7,17 +7,20 @@ use Rattle.words.specs.Choice.{pick}
 use Rattle.words.specs.Bits.{low, field}
 use Rattle.common.specs.declared.Answer.{Answer}
 use Rattle.common.specs.Answers.{numberOf, subStepOf}
-use Rattle.common.specs.Calls.{Call, write, read, step}
+use Rattle.common.specs.Calls.{Call, write, read, step, retire}
 
--- A call's word has its kind in the upper half, 1 begin a write, 2 begin a read, 3 a sub-step, and its number in the lower.
+-- A call's word has its kind in the upper half, 1 begin a write, 2 begin a read, 3 a sub-step, 4 retire a reader, and its number in the
+-- lower.
 abbrev pub kindOf : ℕ → ℕ
 kindOf w = field 32 32 w
 
 abbrev pub isCall : ℕ → Bool
-isCall w = eqb (kindOf w) 1 || (eqb (kindOf w) 2 || eqb (kindOf w) 3)
+isCall w = eqb (kindOf w) 1 || (eqb (kindOf w) 2 || (eqb (kindOf w) 3 || eqb (kindOf w) 4))
 
 abbrev pub callIn : ℕ → Call
-callIn w = pick (eqb (kindOf w) 1) (write (low 32 w)) (pick (eqb (kindOf w) 2) (read (low 32 w)) (step (low 32 w)))
+callIn w =
+    pick (eqb (kindOf w) 1) (write (low 32 w))
+    (pick (eqb (kindOf w) 2) (read (low 32 w)) (pick (eqb (kindOf w) 3) (step (low 32 w)) (retire (low 32 w))))
 
 -- An answer's word: the refusal number in the upper half, the sub-step's number in the lower.
 abbrev pub answerWord : Answer → ℕ

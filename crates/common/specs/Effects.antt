@@ -18,6 +18,10 @@ pub data OneWord (place : ℕ → ℕ → ℕ) (Has : ℕ → ℕ → Type 0) (p
   stores : (q w : ℕ) → Has p q → ((t : List ℕ) → table t ≡ set t (place p q) w) → ((t t′ : List ℕ) → next t ≡ next t′)
       → OneWord place Has p next table
 
+-- (02) "Its cells remain just as they stand": processor p's cells are in the table t′ as in t
+abbrev pub Stand : (ℕ → ℕ → ℕ) → (ℕ → ℕ → Type 0) → ℕ → List ℕ → List ℕ → Type 0
+Stand place Has p t t′ = (q : ℕ) → Has p q → getD t′ (place p q) 0 ≡ getD t (place p q) 0
+
 -- a list as it was, or with one place below b set
 pub data AtMostOne (b : ℕ) (l : List ℕ) : List ℕ → Type 0 where
   as-it-was : AtMostOne b l l

@@ -1,4 +1,4 @@
--- Begins and sub-steps of a register with the rules R, with their questions in document 01's order.
+-- Begins, sub-steps and retirements of a register with the rules R, with their questions in document 01's order.
 use Prim.Native.Nat.{ℕ, _+_, _-_}
 use mathlib.Core.List.{List, [], _∷_}
 use lib.ListN.{length, set}
@@ -8,16 +8,34 @@ use Rattle.words.specs.Row.{rowOf}
 use Rattle.common.specs.declared.State.{State}
 use Rattle.common.specs.declared.Answer.{Answer}
 use Rattle.common.specs.declared.Answer.the-variants.{Accepted, Moved}
-use Rattle.common.specs.declared.Refusal.the-variants.{Range, Processor, Busy, Full, Idle, Spent}
-use Rattle.common.specs.Calls.{Call, write, read, step}
+use Rattle.common.specs.declared.Refusal.the-variants.{Range, Processor, Retired, Busy, Full, Idle, Spent}
+use Rattle.common.specs.Calls.{Call, write, read, step, retire}
 use Rattle.common.specs.Head.{isProcessor, hasRoom, began, stepped}
-use Rattle.common.specs.State.{readerAt, openIn, withWriter, withReader, writerBegins, readerBegins, valueIn}
+use Rattle.common.specs.State.{readerAt, isRetired, openIn, withWriter, withReader, writerBegins, readerBegins, retires, valueIn}
 use Rattle.common.specs.Rules.{Rules, stateOk}
 use Rattle.common.specs.SetUp.{Outcome, refused, setUpOf}
 
--- question 5, and then o
+-- question 5; (02) "13, the reader is retired, for its begin, step or retirement, right after question 5"; and then o
 abbrev pub asProcessor : State → List ℕ → List ℕ → ℕ → ℕ → Outcome → Outcome
-asProcessor s t l least p o = pick (isProcessor (s .head) least p) o (refused Processor s t l)
+asProcessor s t l least p o =
+    pick (isProcessor (s .head) least p) (pick (isRetired s p) (refused Retired s t l) o) (refused Processor s t l)
+
+-- questions 6 and 7 of a read by reader p, which then begins
+abbrev pub openRead : State → List ℕ → List ℕ → ℕ → Outcome
+openRead s t l p =
+    pick (readerAt s (p - 1) .active) (refused Busy s t l)
+    (pick (hasRoom (s .head) (openIn s))
+    (record {
+      answer = Accepted;
+      state = withReader s (p - 1) (readerBegins (readerAt s (p - 1))) (began (s .head));
+      table = t;
+      log = set l (s .head .used) (rowOf 3 p 0);
+    })
+    (refused Full s t l))
+
+-- reader p is retired: it is in the set, and nothing else changes
+abbrev pub retiring : State → List ℕ → List ℕ → ℕ → Outcome
+retiring s t l p = record { answer = Accepted; state = withReader s (p - 1) (retires (readerAt s (p - 1))) (s .head); table = t; log = l }
 
 module _ (R : Rules) where
   -- question 4, and then o
@@ -42,18 +60,7 @@ module _ (R : Rules) where
       (refused Full s t l)))
 
   unfoldable pub beginReadOf : State → List ℕ → List ℕ → ℕ → Outcome
-  beginReadOf s t l p =
-      inRange s t l
-      (asProcessor s t l 1 p
-      (pick (readerAt s (p - 1) .active) (refused Busy s t l)
-      (pick (hasRoom (s .head) (openIn s))
-      (record {
-        answer = Accepted;
-        state = withReader s (p - 1) (readerBegins (readerAt s (p - 1))) (began (s .head));
-        table = t;
-        log = set l (s .head .used) (rowOf 3 p 0);
-      })
-      (refused Full s t l))))
+  beginReadOf s t l p = inRange s t l (asProcessor s t l 1 p (openRead s t l p))
 
   -- "the last sub-step adds the end". "A step tells its own sub-step number: the words this operation has moved."
   unfoldable pub stepWriter : State → List ℕ → List ℕ → Outcome
@@ -77,17 +84,23 @@ module _ (R : Rules) where
       }
 
   -- "Step: has it an open operation (8)?"
+  abbrev pub stepOpen : State → List ℕ → List ℕ → ℕ → Outcome
+  stepOpen s t l p =
+      pick (eqb p 0) (pick (s .writer .active) (stepWriter s t l) (refused Idle s t l))
+      (pick (readerAt s (p - 1) .active) (stepReader s t l p) (refused Idle s t l))
+
   unfoldable pub stepOf : State → List ℕ → List ℕ → ℕ → Outcome
-  stepOf s t l p =
-      inRange s t l
-      (asProcessor s t l 0 p
-      (pick (eqb p 0) (pick (s .writer .active) (stepWriter s t l) (refused Idle s t l))
-      (pick (readerAt s (p - 1) .active) (stepReader s t l p) (refused Idle s t l))))
+  stepOf s t l p = inRange s t l (asProcessor s t l 0 p (stepOpen s t l p))
+
+  -- (02) "Retiring passes questions 4 and 5 (readers 1..n) first, and adds no row."
+  unfoldable pub retireOf : State → List ℕ → List ℕ → ℕ → Outcome
+  retireOf s t l p = inRange s t l (asProcessor s t l 1 p (retiring s t l p))
 
   unfoldable pub callOf : State → List ℕ → List ℕ → Call → Outcome
   callOf s t l (write v) = beginWriteOf s t l v
   callOf s t l (read p) = beginReadOf s t l p
   callOf s t l (step p) = stepOf s t l p
+  callOf s t l (retire p) = retireOf s t l p
 
 -- Lists of calls. "Each call is handed the state that the one before returned, refused or not, and the same buffers as that one left
 -- them".

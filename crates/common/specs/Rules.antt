@@ -8,7 +8,7 @@ use Rattle.common.specs.declared.Writer.{Writer}
 use Rattle.common.specs.declared.Reader.{Reader}
 use Rattle.common.specs.declared.State.{State}
 use Rattle.common.specs.Head.{headOk, HeadInRange}
-use Rattle.common.specs.State.{readerAt, openIn}
+use Rattle.common.specs.State.{readerAt, asCounted, openIn}
 
 -- what a sub-step of a write, or of a read, leaves
 pub record WriteStep : Type 0 where
@@ -37,7 +37,7 @@ pub record Rules : Type 0 where
 
 module _ (R : Rules) where
   abbrev pub readersOk : State → Bool
-  readersOk s = all (s .head .n) (λ i. R .readerOk (s .head .n) (readerAt s i))
+  readersOk s = all (s .head .n) (λ i. R .readerOk (s .head .n) (asCounted (readerAt s i)))
 
   -- "is the state in range (4 if not, and for nothing else": with a table of so many cells and a log of so many rows
   unfoldable pub stateOk : State → ℕ → ℕ → Bool
@@ -48,4 +48,4 @@ module _ (R : Rules) where
   pub record InRange (s : State) (cells log : ℕ) : Type 0 where
     pub head-ok : HeadInRange (R .cells (s .head .n)) (s .head) (openIn s) cells log
     pub writer-ok : R .writerOk (s .head .n) (s .writer) ≡ true
-    pub readers-ok : (i : ℕ) → i < s .head .n → R .readerOk (s .head .n) (readerAt s i) ≡ true
+    pub readers-ok : (i : ℕ) → i < s .head .n → R .readerOk (s .head .n) (asCounted (readerAt s i)) ≡ true

@@ -41,6 +41,7 @@ freshWriter fresh = record {
 -- "No reader has a stamp of its own yet."
 abbrev pub freshReader : Reader
 freshReader = record {
+  retired = false;
   active = false;
   second = false;
   moved = 0;

@@ -1,16 +1,20 @@
 -- Demand 3, as far as it is the same for both registers: a list of calls against the book. Every list is covered, so what is said of the
 -- call that follows a list is said of every call of every list.
-use Prim.Native.Nat.{ℕ}
+use Prim.Native.Nat.{ℕ, _+_, _≤_}
 use mathlib.Core.Path.{_≡_}
-use mathlib.Core.Bool.{Bool, true}
+use mathlib.Core.Bool.{Bool, true, false}
 use mathlib.Core.List.{List}
 use lib.Dec.{T}
 use lib.ListN.{length, take, drop}
+use Rattle.words.specs.Counting.{one}
 use Rattle.history.specs.WellFormed.{wellFormed}
 use Rattle.history.specs.Bands.{NoBands}
 use Rattle.history.specs.Linearization.{Orders}
 use Rattle.common.specs.Answers.{never4}
-use Rattle.common.specs.Calls.{Call, step}
+use Rattle.common.specs.Calls.{Call, step, retire, CallBy}
+use Rattle.common.specs.declared.Answer.the-variants.{Refused}
+use Rattle.common.specs.declared.Refusal.the-variants.{Retired}
+use Rattle.common.specs.State.{isRetired, openIn}
 use Rattle.common.specs.Rules.{Rules, stateOk}
 use Rattle.common.specs.SetUp.{Outcome, setUpOf}
 use Rattle.common.specs.Register.{callOf, Ran, ranFrom}
@@ -36,6 +40,13 @@ module _ {Stamp Cell : Type 0} (R : Rules) (B : Telling Stamp Cell) (n v fresh :
   abbrev model : Model Stamp Cell
   model = modelOf B n v fresh l cs .model
 
+  -- reader p, if it is retired behind the list, whatever call follows
+  pub record Out (p : ℕ) : Type 0 where
+    -- (02) "13, the reader is retired, for its begin, step or retirement"
+    pub thirteen : (c : Call) → CallBy p c → next R n v fresh t l cs c .answer ≡ Refused Retired
+    -- (02) "Add a call that retires a reader, for good"
+    pub for-good : (c : Call) → isRetired (next R n v fresh t l cs c .state) p ≡ true
+
   pub record AsBook : Type 0 where
     -- "The answers compared are each call's refusal number, or that it has none, and each sub-step's number."
     pub answers-are : ran .answers ≡ modelOf B n v fresh l cs .answers
@@ -43,6 +54,14 @@ module _ {Stamp Cell : Type 0} (R : Rules) (B : Telling Stamp Cell) (n v fresh :
     pub cells-are : take (R .cells n) (ran .table) ≡ model .table
     pub used-is : ran .state .head .used ≡ length (model .rows)
     pub rows-are : take (ran .state .head .used) (ran .log) ≡ model .rows
+    -- (02) "the book keeps that set": the state's retired readers are the book's
+    pub retired-are : (p : ℕ) → p ≤ n → isRetired (ran .state) p ≡ model .retired p
+    pub out : (p : ℕ) → 1 ≤ p → p ≤ n → model .retired p ≡ true → Out p
+    -- (02) "Its cells remain just as they stand", "and adds no row"
+    pub moves-nothing : (p : ℕ) → (next R n v fresh t l cs (retire p) .table ≡ ran .table) × (next R n v fresh t l cs (retire p) .log ≡ ran .log)
+    -- (02) "An operation it had open .. stops counting as open in questions 4 and 7": a retirement takes it out of those that count
+    pub frees : (p : ℕ) → 1 ≤ p → p ≤ n → model .retired p ≡ false
+        → openIn (next R n v fresh t l cs (retire p) .state) + one (isOpen (model .op p)) ≡ openIn (ran .state)
     -- "every cell and row beyond is as set-up left it."
     pub cells-beyond : drop (R .cells n) (ran .table) ≡ drop (R .cells n) (setUpOf R n v fresh t l .table)
     pub rows-beyond : drop (ran .state .head .used) (ran .log) ≡ drop (ran .state .head .used) (setUpOf R n v fresh t l .log)

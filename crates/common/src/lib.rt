@@ -6,7 +6,7 @@ pub mod limits; // question 4 of a state's head, and questions 5 and 7
 pub mod rows; // rows of the log
 pub mod others; // the other readers
 
-// The questions that are answered no: document 01's 1 to 8, and 14 of the counted register.
+// The questions that are answered no: document 01's 1 to 8, 13 of a retired reader, and 14 of the counted register.
 pub enum Refusal {
     Readers,
     Cells,
@@ -16,10 +16,11 @@ pub enum Refusal {
     Busy,
     Full,
     Idle,
+    Retired,
     Spent,
 }
 
-// A call's answer: set up or begun; the number of the sub-step made; or a refusal.
+// A call's answer: set up, begun or retired; the number of the sub-step made; or a refusal.
 pub enum Answer {
     Accepted,
     Moved(u8),
@@ -47,10 +48,12 @@ pub struct Writer {
     pub count: u32,
 }
 
-// A reader: of an open read the words moved and the result so far, a cell's word. Of the first register besides: its own stamp; whether
-// the read is in its second attempt; of the attempt the word of its first look, whether the second look had the same stamp, and whether
-// another reader's cell was found, which is then the result, and at the end that of the value and stamp to store.
+// A reader: whether it is retired; of an open read the words moved and the result so far, a cell's word. Of the first register besides:
+// its own stamp; whether the read is in its second attempt; of the attempt the word of its first look, whether the second look had the
+// same stamp, and whether another reader's cell was found, which is then the result, and at the end that of the value and stamp to
+// store.
 pub struct Reader {
+    pub retired: bool,
     pub active: bool,
     pub second: bool,
     pub moved: u8,

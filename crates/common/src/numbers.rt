@@ -19,6 +19,7 @@ pub fn refusal_number(r: Refusal) -> u64
         Refusal::Busy => 6,
         Refusal::Full => 7,
         Refusal::Idle => 8,
+        Refusal::Retired => 13,
         Refusal::Spent => 14,
     }
 }
@@ -39,5 +40,5 @@ pub fn is_call(word: u64) -> bool
     ensures { λ r. ⌜ r ≡ isCall word ⌝ }
 {
     let kind = word / 4294967296 % 4294967296;
-    (kind == 1) | ((kind == 2) | (kind == 3))
+    (kind == 1) | ((kind == 2) | ((kind == 3) | (kind == 4)))
 }

@@ -14,7 +14,7 @@ use Rattle.words.proofs.Laws.Choice.{lt-ind, pick-yes, pick-no, never}
 use Rattle.words.proofs.Laws.Index.{other-valid}
 use Rattle.common.specs.declared.Writer.{Writer}
 use Rattle.common.specs.declared.Reader.{Reader}
-use Rattle.common.specs.State.{readerBegins, valueIn}
+use Rattle.common.specs.State.{readerBegins, retires, valueIn}
 use Rattle.common.specs.Rules.{ReadStep}
 use Rattle.common.specs.Book.{idle, open-with, isOpen}
 use Rattle.common.proofs.Lawful.{WTurnRel, RTurnRel, Simulates}
@@ -215,6 +215,11 @@ begun-r : (n : ℕ) (r : Reader) → 1 ≤ n → RRel n (readerBegins r) 0 []
 unfolding unpackCell
 begun-r n r pos = record { active-is = refl; moved-is = refl; looking = λ _. (refl, leads-none _ refl); taken = λ h. absurd (omega arith) }
 
+-- A reader that is retired stands for what it stood for.
+retired-r : (n : ℕ) (r : Reader) (q : Operation) → ReaderRel n r q → ReaderRel n (retires r) q
+retired-r n r idle k = k
+retired-r n r (open-with v m cells) k = record { active-is = k .active-is; moved-is = k .moved-is; looking = k .looking; taken = k .taken }
+
 pub write-value : (n : ℕ) (t : List ℕ) (s v m : ℕ) (cells : List Cell) → writeTurn n t s v m cells .value ≡ 0
 unfolding writeTurn
 write-value n t s v m cells = lt-ind (λ (x : Turn). x .value ≡ 0) (m + 1) (writeSteps n) _ _ (λ _. refl) (λ _. refl)
@@ -232,6 +237,7 @@ simulates = record {
     op = record { active-is = refl; moved-is = refl; value-is = refl; count-below = ltb-true _ _ may };
   };
   begin-r = λ n r s pos k. begun-r n r pos;
+  retire-r = λ n r s q k. retired-r n r q k;
   turn-w = λ n pos few T X size w s v m cells ok k.
       turn-w n T X size w s v m cells (omega (arith, writer-in n w ok .moved-low (k .op .active-is), k .op .moved-is)) (k .count-is) (k .op);
   turn-r = λ n p few p1 pn T X size r s v m cells ok k.

@@ -11,10 +11,11 @@ use Rattle.common.specs.Register.{Ran, ranFrom}
 use Rattle.common.specs.Whole.{modelOf}
 use Rattle.common.proofs.Run.{FromSetUp}
 use Rattle.common.proofs.Whole as Frame
+use Rattle.counted.specs.Table.{index, Link}
 use Rattle.counted.specs.Rules.{countedRules}
 use Rattle.counted.specs.Reference.{Model, book}
 use Rattle.counted.specs.Whole.{Whole}
-use Rattle.counted.proofs.Laws.{lawful}
+use Rattle.counted.proofs.Laws.{lawful, wired}
 use Rattle.counted.proofs.TurnRel.{WIs, RIs, simulates}
 use Rattle.counted.proofs.Counts.{write-moves, next-stamp, read-moves, spent-only}
 use Rattle.counted.proofs.Atomic.Runs.{model-swept, model-meets}
@@ -37,16 +38,17 @@ module _ (n v fresh : ℕ) (t l : List ℕ) (cs : List Call) (fresh-low : fresh 
 
   pub whole : v < 2 ^ 32 → LowCalls cs → Whole n v fresh t l cs
   whole low lows = record {
-    as-book = Frame.as-book countedRules book WIs RIs lawful simulates n v fresh fresh-low t l cs e
+    as-book = Frame.as-book countedRules book WIs RIs lawful simulates n v fresh fresh-low t l cs e index Link wired
         (model-swept n (length l) v fresh cs (z .n-low) (z .n-high) low fresh-low lows);
     write-moves = λ u m cells q.
         Frame.as-set-up countedRules book WIs RIs lawful simulates n v fresh fresh-low t l cs e 0 m (λ k. k)
         (write-moves _ _ (r .state) (r .table) (r .log) b (z .runs .good) (z .runs .rel) full u m cells q);
-    read-moves = λ p p1 pn u m cells q.
+    read-moves = λ p p1 pn free u m cells q.
         Frame.as-set-up countedRules book WIs RIs lawful simulates n v fresh fresh-low t l cs e p m (λ k. 2 * k - 1)
-        (read-moves _ _ (r .state) (r .table) (r .log) b (z .runs .good) (z .runs .rel) full p p1 (omega (arith, n-is)) u m cells q);
+        (read-moves _ _ (r .state) (r .table) (r .log) b (z .runs .good) (z .runs .rel) full p p1 (omega (arith, n-is)) free u m cells q);
     meets = model-meets n (length l) v fresh cs (z .n-low) (z .n-high) low fresh-low lows;
     stamp-low = omega (arith, z .runs .rel .writer-is .count-low, z .runs .rel .writer-is .count-is);
     next-stamp = λ u m cells q. next-stamp _ _ (r .state) (r .table) (r .log) b (z .runs .good) (z .runs .rel) full u m cells q;
     spent = λ c. spent-only _ _ (r .state) (r .table) (r .log) b (z .runs .good) (z .runs .rel) full c;
+    retired-cells = Frame.cells-stand countedRules book WIs RIs lawful simulates n v fresh fresh-low t l cs e index Link wired;
   }

@@ -42,6 +42,7 @@ larger a b = pick (ltb (stampIn a) (stampIn b)) b a
 -- a word more moved, and the result so far
 abbrev pub readOn : ℕ → Reader → ℕ → Reader
 readOn n r result = record {
+  retired = r .retired;
   active = ltb (r .moved + 1) (readSteps n);
   second = r .second;
   moved = r .moved + 1;

@@ -1,1 +1,3 @@
+mod KeptWalk
 mod Lent
+mod LentWalk

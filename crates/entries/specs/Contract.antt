@@ -19,6 +19,10 @@ beginOf s t l p v =
 abbrev pub stepOf : State → List ℕ → List ℕ → ℕ → Outcome
 stepOf s t l p = Register.stepOf (rulesOf (s .head .counted)) s t l p
 
+-- reader p is retired
+abbrev pub retireOf : State → List ℕ → List ℕ → ℕ → Outcome
+retireOf s t l p = Register.retireOf (rulesOf (s .head .counted)) s t l p
+
 -- an answer, with the state, the table and the log as they are left
 abbrev pub left : Answer → State → List ℕ → List ℕ → Outcome
 left a s t l = record { answer = a; state = s; table = t; log = l }

@@ -7,7 +7,7 @@ use common::Answer;
 use common::State;
 ghost use mathlib.Core.Path.{_≡_};
 ghost use Rattle.common.specs.Answers.{reply};
-ghost use Rattle.entries.specs.Contract.{beginOf, stepOf, left};
+ghost use Rattle.entries.specs.Contract.{beginOf, stepOf, retireOf, left};
 
 // Processor p begins: the writer, 0, a write of the value, and a reader a read.
 pub fn begin(state: &mut State, table: &mut [u64], log: &mut [u64], p: u32, value: u32) -> Answer
@@ -25,6 +25,16 @@ pub fn step(state: &mut State, table: &mut [u64], log: &mut [u64], p: u32) -> An
         × (reply r ≡ reply (stepOf (now (state .entry)) (now (table .entry)) (now (log .entry)) p .answer)) ⌝ }
 {
     let called = register::calls::step(*state, table, log, p);
+    *state = called.state;
+    called.answer
+}
+
+// Reader p is retired, for good.
+pub fn retire(state: &mut State, table: &mut [u64], log: &mut [u64], p: u32) -> Answer
+    ensures { λ r. ⌜ (left r (now (state .exit)) (now (table .exit)) (now (log .exit)) ≡ retireOf (now (state .entry)) (now (table .entry)) (now (log .entry)) p)
+        × (reply r ≡ reply (retireOf (now (state .entry)) (now (table .entry)) (now (log .entry)) p .answer)) ⌝ }
+{
+    let called = register::calls::retire(*state, table, log, p);
     *state = called.state;
     called.answer
 }

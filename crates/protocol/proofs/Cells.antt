@@ -7,13 +7,13 @@ use mathlib.Core.Bool.{Bool, true, false}
 use native.Mathlib.Omega.{arith}
 use lib.ListN.{length}
 use lib.Seq.{getD-set-same}
-use lib.Dec.{leb, eqb}
-use borrow.Author.Tests.{leb-true, eqb-true, eqb-false}
+use lib.Dec.{eqb}
+use borrow.Author.Tests.{eqb-true, eqb-false}
 use Rattle.words.specs.declared.cell.Cell.{Cell}
 use Rattle.words.specs.Stamp.{none}
 use Rattle.words.specs.Cell.{packCell, unpackCell}
 use Rattle.words.specs.Index.{index, Pair, other}
-use Rattle.words.proofs.Laws.Choice.{pick-ind, lt-ind, eq-ind, right}
+use Rattle.words.proofs.Laws.Choice.{pick-ind, lt-ind, eq-ind}
 use Rattle.words.proofs.Laws.Cell.{packed-zero, packed-none}
 use Rattle.words.proofs.Laws.Index.{index-low, other-valid}
 use Rattle.common.specs.declared.Writer.{Writer}
@@ -23,10 +23,11 @@ use Rattle.common.specs.declared.Answer.the-variants.{Accepted}
 use Rattle.common.specs.Rules.{WriteStep, ReadStep, stateOk, InRange}
 use Rattle.common.specs.State.{readerAt, openIn}
 use Rattle.common.specs.SetUp.{Outcome, setUpOf}
-use Rattle.common.specs.Head.{isProcessor, hasRoom}
-use Rattle.common.specs.Register.{beginWriteOf, beginReadOf, stepWriter, stepReader, stepOf, callOf, runOf, ranFrom}
+use Rattle.common.specs.Head.{hasRoom}
+use Rattle.common.specs.Register.{beginWriteOf, beginReadOf, stepWriter, stepReader, stepOf, retireOf, callOf, runOf, ranFrom}
 use Rattle.common.specs.Book.{kept}
-use Rattle.common.specs.Calls.{Call, write, read, step}
+use Rattle.common.specs.Calls.{Call, write, read, step, retire}
+use Rattle.common.proofs.Asked.{as-processor}
 use Rattle.common.proofs.Range.{test-range}
 use Rattle.common.proofs.Run.{from-set-up}
 use Rattle.common.proofs.Keep.{Good, call-stays}
@@ -127,9 +128,8 @@ module _ (s : State) (t l : List ℕ) (k : CellsKept (s .head .n) t) where
   unfolding beginReadOf
   begin-read-keeps p =
       pick-ind Keeps (stateOk ticketRules s (length t) (length l)) _ _
-      (λ _. pick-ind Keeps (isProcessor (s .head) 1 p) _ _
-      (λ _. pick-ind Keeps (readerAt s (p - 1) .active) _ _ (λ _. k) (λ _. pick-ind Keeps (hasRoom (s .head) (openIn s)) _ _ (λ _. k) (λ _. k)))
-      (λ _. k))
+      (λ _. as-processor Keeps s t l k k 1 p _ λ _ _ _.
+      pick-ind Keeps (readerAt s (p - 1) .active) _ _ (λ _. k) (λ _. pick-ind Keeps (hasRoom (s .head) (openIn s)) _ _ (λ _. k) (λ _. k)))
       (λ _. k)
 
   writer-keeps : InRange ticketRules s (length t) (length l) → s .writer .active ≡ true → Keeps (stepWriter ticketRules s t l)
@@ -146,18 +146,21 @@ module _ (s : State) (t l : List ℕ) (k : CellsKept (s .head .n) t) where
       pick-ind Keeps (stateOk ticketRules s (length t) (length l)) _ _
       (λ e.
       let z = test-range ticketRules s (length t) (length l) e in
-      pick-ind Keeps (isProcessor (s .head) 0 p) _ _
-      (λ h. eq-ind Keeps p 0 _ _
+      as-processor Keeps s t l k k 0 p _ λ _ pn _. eq-ind Keeps p 0 _ _
       (λ _. pick-ind Keeps (s .writer .active) _ _ (writer-keeps z) (λ _. k))
-      (λ ne. pick-ind Keeps (readerAt s (p - 1) .active) _ _ (λ _. reader-keeps z p (omega arith) (leb-true p (s .head .n) (right (leb 0 p) (leb p (s .head .n)) h))) (λ _. k)))
-      (λ _. k))
+      (λ ne. pick-ind Keeps (readerAt s (p - 1) .active) _ _ (λ _. reader-keeps z p (omega arith) pn) (λ _. k)))
       (λ _. k)
+
+  retire-keeps : (p : ℕ) → Keeps (retireOf ticketRules s t l p)
+  unfolding retireOf
+  retire-keeps p = pick-ind Keeps (stateOk ticketRules s (length t) (length l)) _ _ (λ _. as-processor Keeps s t l k k 1 p _ λ _ _ _. k) (λ _. k)
 
   call-keeps : (c : Call) → Keeps (callOf ticketRules s t l c)
   unfolding callOf
   call-keeps (write v) = begin-write-keeps v
   call-keeps (read p) = begin-read-keeps p
   call-keeps (step p) = step-keeps p
+  call-keeps (retire p) = retire-keeps p
 
 run-keeps : (n : ℕ) (cs : List Call) (s : State) (t l : List ℕ) → s .head .n ≡ n → Good ticketRules s (length t) (length l) → CellsKept n t
     → CellsKept n (runOf ticketRules s t l cs .table)

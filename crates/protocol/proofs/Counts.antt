@@ -1,6 +1,6 @@
 -- The sub-step that follows a list: its number, when the operation ends, and the new ticket.
 use Prim.Native.Nat.{ℕ, _+_, _-_, _*_, _≤_, _<_}
-use mathlib.Core.Path.{_≡_, refl, subst, ap, _∙_}
+use mathlib.Core.Path.{_≡_, refl, sym, subst, ap, _∙_}
 use mathlib.Core.List.{List, _++_}
 use mathlib.Core.Bool.{Bool, true, false}
 use native.Mathlib.Omega.{arith}
@@ -22,6 +22,7 @@ use Rattle.common.specs.Calls.{step}
 use Rattle.common.specs.Moves.{Moves}
 use Rattle.common.specs.Register.{callOf}
 use Rattle.common.proofs.Keep.{Good}
+use Rattle.common.proofs.Range.{reader-ok}
 use Rattle.common.proofs.Refine.{Rel, call-rel}
 use Rattle.common.proofs.Counts.{write-told, read-told, write-number, read-number}
 use Rattle.protocol.specs.Table.{view, store}
@@ -34,6 +35,7 @@ use Rattle.protocol.proofs.WriterRel.{WRel, WriterRel, WIs}
 use Rattle.protocol.proofs.ReaderRel.{RRel, ReaderRel, RIs}
 use Rattle.protocol.proofs.Range.{writer-in, reader-in}
 use Rattle.protocol.proofs.Simulates.{simulates}
+use Rattle.protocol.proofs.Laws.{lawful}
 
 -- s, t, l: the state with its buffers; b: the book that it is related to.
 module _ (X L : List ℕ) (s : State) (t l : List ℕ) (b : Model) (g : Good ticketRules s (length t) (length l))
@@ -52,7 +54,7 @@ module _ (X L : List ℕ) (s : State) (t l : List ℕ) (b : Model) (g : Good tic
     low = omega (arith, writer-in n (s .writer) (g .ok .writer-ok) .moved-low (K .active-is), K .moved-is)
 
     step-is : told book n (s .head .rows) b (step 0) ≡ movesWrite book n b (open-with v m cells)
-    step-is = write-told book n (s .head .rows) b _ e
+    step-is = write-told book n (s .head .rows) b _ (sym (R .retired-are 0 (omega arith))) e
 
     abbrev On : Bool → Turn → Type 0
     On c x = isOpen (x .op) ≡ c
@@ -60,7 +62,7 @@ module _ (X L : List ℕ) (s : State) (t l : List ℕ) (b : Model) (g : Good tic
     pub write-moves : Moves (callOf ticketRules s t l (step 0) .answer) (still 0) m (2 * n)
     unfolding writeTurn
     write-moves = record {
-      number-is = write-number ticketRules book WIs RIs simulates X L s t l b g R full v m cells e;
+      number-is = write-number ticketRules book WIs RIs lawful simulates X L s t l b g R full v m cells e;
       not-past = omega (arith, low);
       goes-on = λ h.
           rw (step-is, upd-same (b .op) 0)
@@ -105,7 +107,7 @@ module _ (X L : List ℕ) (s : State) (t l : List ℕ) (b : Model) (g : Good tic
 
       stored : view n (callOf ticketRules s t l (step 0) .table) 0 1 .stamp .cur ≡ ticket
       stored =
-          ap (λ (x : List ℕ). view n x 0 1 .stamp .cur) (call-rel ticketRules book WIs RIs simulates X L s t l b g R full (step 0) .rel .table-is)
+          ap (λ (x : List ℕ). view n x 0 1 .stamp .cur) (call-rel ticketRules book WIs RIs lawful simulates X L s t l b g R full (step 0) .rel .table-is)
           ∙ ap (λ (x : Told). view n (x .model .table ++ X) 0 1 .stamp .cur) step-is
           ∙ stores
 
@@ -114,7 +116,7 @@ module _ (X L : List ℕ) (s : State) (t l : List ℕ) (b : Model) (g : Good tic
           let w = walks (excludedTickets (b .stamp 0) cells) n (b .stamp 0 .cur) in
           record { not-excluded = rw stored (walks-unbarred n (b .stamp 0 .cur) w); one-of = rw stored ticket-low; walks = rw stored w }
 
-  module _ (p : ℕ) (p1 : 1 ≤ p) (pn : p ≤ s .head .n) (v m : ℕ) (cells : List Cell) (e : b .op p ≡ open-with v m cells) where
+  module _ (p : ℕ) (p1 : 1 ≤ p) (pn : p ≤ s .head .n) (free : b .retired p ≡ false) (v m : ℕ) (cells : List Cell) (e : b .op p ≡ open-with v m cells) where
     KR : RRel n (readerAt s (p - 1)) m cells
     KR = subst (ReaderRel n (readerAt s (p - 1))) e (R .readers-are p p1 pn .op)
 
@@ -133,7 +135,7 @@ module _ (X L : List ℕ) (s : State) (t l : List ℕ) (b : Model) (g : Good tic
     low-r = at (KR .late) refl
       where
         ok : ReaderInRange n (readerAt s (p - 1))
-        ok = reader-in n (readerAt s (p - 1)) (g .ok .readers-ok (p - 1) (omega arith))
+        ok = reader-in n (readerAt s (p - 1)) (reader-ok s p p1 (R .retired-are p pn ∙ free) pn ticketRules _ _ (g .ok))
 
         at : (c : Bool) → KR .late ≡ c → KR .l ≤ 2 * n + 2
         at true q =
@@ -141,7 +143,7 @@ module _ (X L : List ℕ) (s : State) (t l : List ℕ) (b : Model) (g : Good tic
         at false q = omega (arith, ok .in-first (KR .active-is) (KR .second-is ∙ q), KR .moved-is, KR .at, pick-no (KR .late) (n + 3) 0 q)
 
     step-is-r : told book n (s .head .rows) b (step p) ≡ movesRead book n b p (open-with v m cells)
-    step-is-r = read-told book n (s .head .rows) b p _ p1 pn e
+    step-is-r = read-told book n (s .head .rows) b p _ p1 pn free e
 
     l-is : m - pick (failed n m cells) (n + 3) 0 ≡ KR .l
     l-is = rw (KR .failed-is) (omega (arith, KR .at))
@@ -160,7 +162,7 @@ module _ (X L : List ℕ) (s : State) (t l : List ℕ) (b : Model) (g : Good tic
     pub read-moves : Moves (callOf ticketRules s t l (step p) .answer) (still p) m last
     unfolding readTurn resultTurn
     read-moves = record {
-      number-is = read-number ticketRules book WIs RIs simulates X L s t l b g R full v m cells p p1 pn e;
+      number-is = read-number ticketRules book WIs RIs lawful simulates X L s t l b g R full v m cells p p1 pn free e;
       not-past = omega (arith, last-is, low-r, KR .at);
       goes-on = λ h.
           rw (step-is-r, upd-same (b .op) p, l-is)

@@ -2,11 +2,10 @@
 use Prim.Native.Nat.{ℕ, _+_, _-_, _*_, _≤_, _<_}
 use mathlib.Core.Path.{_≡_, refl, sym, ap}
 use mathlib.Core.List.{List}
-use mathlib.Core.Bool.{true, false}
+use mathlib.Core.Bool.{false}
 use native.Mathlib.Omega.{arith}
 use lib.Dec.{ltb, eqb}
 use borrow.Author.Tests.{ltb-true, ltb-false, eqb-false}
-use Rattle.words.specs.Cell.{unpackCell}
 use Rattle.words.specs.Index.{index, Pair, other}
 use Rattle.words.proofs.Laws.Index.{other-valid}
 use Rattle.common.specs.declared.Writer.{Writer}
@@ -14,7 +13,6 @@ use Rattle.common.specs.declared.Reader.{Reader}
 use Rattle.common.specs.Rules.{WriteStep, ReadStep}
 use Rattle.common.specs.Effects.{OneWord, reads, stores}
 use Rattle.common.proofs.Effects.{word-by}
-use Rattle.protocol.specs.Tickets.{withCell}
 use Rattle.protocol.specs.Write.{writeStep}
 use Rattle.protocol.specs.Read.{movedOn, looksFirst, looksAgain, looksAtOther, looksThird, attemptStep, resultStep, since, readStep}
 
@@ -26,17 +24,7 @@ write-word n w nl h =
     (λ e.
     let l = ltb-true (w .moved) n e in
     reads (w .moved + 1) (omega arith) (λ _. refl)
-    (λ t t′ q. ap
-    (λ (x : ℕ). record {
-      active = true;
-      moved = w .moved + 1;
-      value = w .value;
-      excluded = withCell (w .excluded) (unpackCell x);
-      ticket = w .ticket;
-      stamp = w .stamp;
-      count = w .count;
-    })
-    q))
+    (λ t t′ q. cc))
     (λ e. let l = ltb-false (w .moved) n e in stores (w .moved - n + 1) _ (omega arith) (λ _. refl) (λ _ _. refl))
 
 -- A sub-step of a reader's open read moves one word.

@@ -9,13 +9,13 @@ use Rattle.words.specs.Cell.{unpackCell}
 use Rattle.words.specs.Choice.{pick}
 use Rattle.words.specs.Index.{index, Pair}
 use Rattle.words.proofs.Laws.Choice.{lt-ind, eq-ind, never}
-use Rattle.words.proofs.Laws.Index.{index-low}
+use Rattle.words.proofs.Laws.Index.{index-low, index-inj}
 use Rattle.common.specs.declared.Writer.{Writer}
 use Rattle.common.specs.declared.Reader.{Reader}
-use Rattle.common.specs.State.{writerBegins, readerBegins}
+use Rattle.common.specs.State.{asCounted, writerBegins, readerBegins, retires}
 use Rattle.common.specs.Rules.{WriteStep, ReadStep}
 use Rattle.common.proofs.Effects.{word-cell}
-use Rattle.common.proofs.Lawful.{Lawful}
+use Rattle.common.proofs.Lawful.{Lawful, Wired}
 use Rattle.protocol.specs.Table.{view}
 use Rattle.protocol.specs.Tickets.{bit}
 use Rattle.protocol.specs.NewTicket.{Walks}
@@ -149,10 +149,43 @@ opened-w n v w nl k = record {
 opened-r : (n : ℕ) (r : Reader) → ReaderInRange n r → ReaderInRange n (readerBegins r)
 opened-r n r k = record { stamp-ok = k .stamp-ok; in-first = λ _ _. omega arith; in-second = λ _ e. never (sym e) }
 
+-- A reader that is retired has no open read to be asked about.
+retired-r : (n : ℕ) (r : Reader) → ReaderInRange n r → ReaderInRange n (asCounted (retires r))
+retired-r n r k = record { stamp-ok = k .stamp-ok; in-first = λ e. never (sym e); in-second = λ e. never (sym e) }
+
+-- A sub-step retires none.
+module _ (n p : ℕ) (r : Reader) (t : List ℕ) where
+  abbrev AsIt : ReadStep → Type 0
+  AsIt q = q .reader .retired ≡ r .retired
+
+  tries-as-it : (l : ℕ) → AsIt (attemptStep n p l r t)
+  unfolding attemptStep
+  tries-as-it l =
+      eq-ind AsIt l 0 _ _ (λ _. refl) λ _.
+      eq-ind AsIt l 1 _ _ (λ _. refl) λ _.
+      eq-ind AsIt l 2 _ _ (λ _. refl) λ _.
+      lt-ind AsIt l (n + 2) _ _ (λ _. refl) (λ _. refl)
+
+  puts-as-it : (k : ℕ) → AsIt (resultStep n p k r t)
+  unfolding resultStep
+  puts-as-it k = lt-ind AsIt (k + 1) n _ _ (λ _. refl) (λ _. refl)
+
+  retired-stays : readStep n p r t .reader .retired ≡ r .retired
+  unfolding readStep
+  retired-stays = lt-ind AsIt (since n r) (n + 3) _ _ (λ _. tries-as-it (since n r)) (λ _. puts-as-it (since n r - (n + 3)))
+
 -- The rules' fresh cells are the book's.
 pub fresh-is : (n v : ℕ) → freshCells n v ≡ freshTable n v
 unfolding freshCells freshTable
 fresh-is n v = refl
+
+-- Its cells: each is one processor's.
+pub wired : Wired ticketRules index Pair
+wired = record {
+  one-owner = λ n i j k m v w e. index-inj n i j k m v w e .0;
+  write-word = λ n w nl e a. write-word n w nl (writer-in n w e .moved-low a);
+  read-word = λ n p r p1 pn e a. read-word n p (omega arith) p1 pn r;
+}
 
 pub lawful : Lawful ticketRules
 lawful = record {
@@ -160,6 +193,8 @@ lawful = record {
   reader-turn = λ n p r t nl nh e a. in-reader n _ (turn-r n p r t (reader-in n r e) a nl);
   writer-begins = λ n v w nl e _. in-writer n _ (opened-w n v w nl (writer-in n w e));
   reader-begins = λ n r nl e. in-reader n _ (opened-r n r (reader-in n r e));
+  reader-retires = λ n r e. in-reader n _ (retired-r n r (reader-in n r e));
+  retired-stays = retired-stays;
   fresh-writer = λ n fresh. in-writer n _
       (record {
         stamp-ok = omega arith;
@@ -168,7 +203,7 @@ lawful = record {
         ticket-low = λ e. never (sym e);
       });
   fresh-reader = λ n. in-reader n _ (record { stamp-ok = omega arith; in-first = λ e. never (sym e); in-second = λ e. never (sym e) });
-  write-cell = λ n w t nl e a. word-cell (index n) (Pair n) _ (index-low n) 0 _ _ (write-word n w nl (writer-in n w e .moved-low a)) t;
-  read-cell = λ n p r t p1 pn e a. word-cell (index n) (Pair n) _ (index-low n) p _ _ (read-word n p (omega arith) p1 pn r) t;
+  write-cell = λ n w t nl e a. word-cell (index n) (Pair n) _ (index-low n) 0 _ _ (wired .write-word n w nl e a) t;
+  read-cell = λ n p r t p1 pn e a. word-cell (index n) (Pair n) _ (index-low n) p _ _ (wired .read-word n p r p1 pn e a) t;
   fresh-length = λ n v fresh nl. rw (fresh-is n v) (fresh-length n v);
 }

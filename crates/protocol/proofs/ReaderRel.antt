@@ -11,7 +11,7 @@ use Rattle.words.specs.declared.cell.Cell.{Cell}
 use Rattle.words.specs.Choice.{pick}
 use Rattle.words.specs.Cell.{unpackCell}
 use Rattle.common.specs.declared.Reader.{Reader}
-use Rattle.common.specs.State.{valueIn}
+use Rattle.common.specs.State.{retires, valueIn}
 use Rattle.common.specs.Book.{idle, open-with}
 use Rattle.protocol.specs.Read.{stampIn}
 use Rattle.protocol.specs.Reference.{Operation, nth, alike, firstWith, agree, Result, resultOf, failed}
@@ -70,4 +70,19 @@ rel-opened n r e1 e2 e3 = record {
     found-is = λ q. absurd (omega arith);
   };
   storing = λ q. absurd (omega arith);
+}
+
+-- A reader that is retired stands for what it stood for.
+pub rel-retired : (n : ℕ) (r : Reader) (q : Operation) → ReaderRel n r q → ReaderRel n (retires r) q
+rel-retired n r idle k = k
+rel-retired n r (open-with v m cells) k = record {
+  late = k .late;
+  l = k .l;
+  active-is = k .active-is;
+  moved-is = k .moved-is;
+  second-is = k .second-is;
+  failed-is = k .failed-is;
+  at = k .at;
+  trying = λ h. let y = k .trying h in record { length-is = y .length-is; look-is = y .look-is; agree-is = y .agree-is; found-is = y .found-is };
+  storing = k .storing;
 }

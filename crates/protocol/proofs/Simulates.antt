@@ -17,7 +17,7 @@ use Rattle.protocol.specs.Reference.{Operation, Turn, writeTurn, freshSt
 use Rattle.protocol.proofs.Range.{writer-in}
 use Rattle.protocol.proofs.Walk.{bars}
 use Rattle.protocol.proofs.WriterRel.{WRel, WIs, turn-w-rel}
-use Rattle.protocol.proofs.ReaderRel.{RIs, rel-opened}
+use Rattle.protocol.proofs.ReaderRel.{RIs, rel-opened, rel-retired}
 use Rattle.protocol.proofs.ReaderTurn.{turn-r-rel}
 use Rattle.protocol.proofs.Laws.{fresh-is}
 
@@ -59,6 +59,7 @@ simulates = record {
   spent-is = λ n w st q k. refl;
   begin-w = λ n v w st nl k _. record { stamp-is = k .stamp-is; op = begun-w n v w st };
   begin-r = λ n r st nl k. record { stamp-is = k .stamp-is; op = rel-opened n (readerBegins r) refl refl refl };
+  retire-r = λ n r st q k. record { stamp-is = k .stamp-is; op = rel-retired n r q (k .op) };
   turn-w = λ n nl nh T X size w st v m cells e k. turn-w-rel n nl nh T X size w st v m cells (k .op) (k .stamp-is) (writer-in n w e);
   turn-r = λ n p nh p1 pn T X size r st v m cells e k. turn-r-rel n p (omega arith) p1 pn T X size r st m cells (k .op) (k .stamp-is);
   write-value = end-0;

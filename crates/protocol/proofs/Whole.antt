@@ -6,6 +6,7 @@ use native.Mathlib.Omega.{arith}
 use lib.ListN.{length}
 use Rattle.words.specs.declared.cell.Cell.{Cell}
 use Rattle.words.specs.Choice.{pick}
+use Rattle.words.specs.Index.{index, Pair}
 use Rattle.common.specs.declared.Answer.the-variants.{Accepted}
 use Rattle.common.specs.Calls.{Call, step, LowCalls}
 use Rattle.common.specs.SetUp.{setUpOf}
@@ -13,13 +14,13 @@ use Rattle.common.specs.Register.{Ran, ranFrom}
 use Rattle.common.specs.Book.{open-with}
 use Rattle.common.specs.Whole.{modelOf, next}
 use Rattle.common.proofs.Run.{FromSetUp}
-use Rattle.common.proofs.Whole.{start, n-is, full, as-set-up, as-book}
+use Rattle.common.proofs.Whole.{start, n-is, full, as-set-up, as-book, cells-stand}
 use Rattle.protocol.specs.Rules.{ticketRules}
 use Rattle.protocol.specs.Reference.{Model, excludedTickets, failed, book}
 use Rattle.protocol.specs.Whole.{NewTicket, Whole}
 use Rattle.protocol.proofs.WriterRel.{WIs}
 use Rattle.protocol.proofs.ReaderRel.{RIs}
-use Rattle.protocol.proofs.Laws.{lawful}
+use Rattle.protocol.proofs.Laws.{lawful, wired}
 use Rattle.protocol.proofs.Simulates.{simulates}
 use Rattle.protocol.proofs.Counts.{write-moves, read-moves, first-ticket}
 use Rattle.protocol.proofs.Atomic.Runs.{model-swept}
@@ -48,11 +49,12 @@ module _ (n v : ℕ) (t l : List ℕ) (cs : List Call) (e : setUpOf ticketRules 
 
   pub whole : v < 2 ^ 32 → LowCalls cs → Whole n v t l cs
   whole low lows = record {
-    as-book = as-book ticketRules book WIs RIs lawful simulates n v 0 (omega arith) t l cs e
+    as-book = as-book ticketRules book WIs RIs lawful simulates n v 0 (omega arith) t l cs e index Pair wired
         (model-swept n (length l) v cs (z .n-low) (z .n-high) low lows);
     write-moves = λ u m cells q. as-set-up ticketRules book WIs RIs lawful simulates n v 0 (omega arith) t l cs e 0 m (λ k. 2 * k)
         (write-moves _ _ (r .state) (r .table) (r .log) b (z .runs .good) (z .runs .rel) rows-kept u m cells q);
-    read-moves = λ p p1 pn u m cells q. as-set-up ticketRules book WIs RIs lawful simulates n v 0 (omega arith) t l cs e p m (λ k. pick (failed k m cells) (3 * k + 6) (2 * k + 3))
-        (read-moves _ _ (r .state) (r .table) (r .log) b (z .runs .good) (z .runs .rel) rows-kept p p1 (omega (arith, n-kept)) u m cells q);
+    read-moves = λ p p1 pn free u m cells q. as-set-up ticketRules book WIs RIs lawful simulates n v 0 (omega arith) t l cs e p m (λ k. pick (failed k m cells) (3 * k + 6) (2 * k + 3))
+        (read-moves _ _ (r .state) (r .table) (r .log) b (z .runs .good) (z .runs .rel) rows-kept p p1 (omega (arith, n-kept)) free u m cells q);
     new-ticket = next-ticket;
+    retired-cells = cells-stand ticketRules book WIs RIs lawful simulates n v 0 (omega arith) t l cs e index Pair wired;
   }

@@ -22,6 +22,7 @@ stampIn w = unpackCell w .stamp
 -- a word more moved by the read
 abbrev pub movedOn : Reader → Reader
 movedOn r = record {
+  retired = r .retired;
   active = true;
   second = r .second;
   moved = r .moved + 1;
@@ -35,6 +36,7 @@ movedOn r = record {
 -- "read the writer's cell (first look)"
 abbrev pub looksFirst : Reader → ℕ → Reader
 looksFirst r w = record {
+  retired = r .retired;
   active = r .active;
   second = r .second;
   moved = r .moved;
@@ -48,6 +50,7 @@ looksFirst r w = record {
 -- "read the writer's cell (second look)"
 abbrev pub looksAgain : Reader → ℕ → Reader
 looksAgain r w = record {
+  retired = r .retired;
   active = r .active;
   second = r .second;
   moved = r .moved;
@@ -62,6 +65,7 @@ looksAgain r w = record {
 -- first look's cur, and used only if the looks are equal.
 abbrev pub looksAtOther : Reader → ℕ → Reader
 looksAtOther r w = record {
+  retired = r .retired;
   active = r .active;
   second = r .second;
   moved = r .moved;
@@ -79,6 +83,7 @@ abbrev pub looksThird : Reader → ℕ → Reader
 looksThird r w =
     let equal = r .agree && same (stampIn (r .look)) (stampIn w) in
     record {
+      retired = r .retired;
       active = r .active;
       second = r .second || not equal;
       moved = r .moved;
@@ -92,6 +97,7 @@ looksThird r w =
 -- "The read ends there": the result's stamp is the reader's own
 abbrev pub readEnds : Reader → Reader
 readEnds r = record {
+  retired = r .retired;
   active = false;
   second = r .second;
   moved = r .moved;

@@ -50,13 +50,17 @@ ticketAfter n s cells = newTicket n (s .cur) (excludedTickets s cells)
 abbrev pub newStamp : ℕ → Stamp → List Cell → Stamp
 newStamp n s cells = record { cur = ticketAfter n s cells; prev = s .cur }
 
+-- "Sub-steps 1..n read the readers' cells to the writer, readers 1..n."
+abbrev pub cellRead : ℕ → List ℕ → ℕ → Cell
+cellRead n t m = view n t (m + 1) 0
+
 -- "Sub-steps 1..n read the readers' cells to the writer", "Sub-steps n+1..2n store v with the new stamp to readers 1..n",
 -- "A write ends at its sub-step 2n."
 unfoldable pub writeTurn : ℕ → List ℕ → Stamp → ℕ → ℕ → List Cell → Turn
 writeTurn n t s v m cells =
     let t′ = store n t 0 (m - n + 1) (record { value = v; stamp = newStamp n s cells; announced = none }) in
     pick (ltb m n)
-    (record { op = open-with v (m + 1) (cells ++ (view n t (m + 1) 0 ∷ [])); stamp = s; table = t; value = 0 })
+    (record { op = open-with v (m + 1) (cells ++ (cellRead n t m ∷ [])); stamp = s; table = t; value = 0 })
     (pick (ltb (m + 1) (2 * n)) (record { op = open-with v (m + 1) cells; stamp = s; table = t′; value = 0 })
     (record { op = idle; stamp = newStamp n s cells; table = t′; value = 0 }))
 

@@ -2,12 +2,15 @@
 -- is said here of the sub-step that follows a list is said of every sub-step of every list.
 use Prim.Native.Nat.{ℕ, _+_, _*_, _≤_}
 use mathlib.Core.Path.{_≡_}
-use mathlib.Core.Bool.{false}
+use mathlib.Core.Bool.{true, false}
 use mathlib.Core.List.{List}
 use Rattle.words.specs.declared.cell.Cell.{Cell}
 use Rattle.words.specs.Choice.{pick}
+use Rattle.words.specs.Index.{index, Pair}
 use Rattle.common.specs.Calls.{Call, step}
 use Rattle.common.specs.Moves.{Moves}
+use Rattle.common.specs.Effects.{Stand}
+use Rattle.common.specs.Register.{ranFrom}
 use Rattle.common.specs.Book.{open-with}
 use Rattle.common.specs.Whole.{modelOf, still, next, AsBook}
 use Rattle.protocol.specs.Table.{view}
@@ -32,9 +35,12 @@ module _ (n v : ℕ) (t l : List ℕ) (cs : List Call) where
     -- "No sub-step of an open operation is refused. A write ends exactly at its own sub-step 2n,
     pub write-moves : (u m : ℕ) (cells : List Cell) → model .op 0 ≡ open-with u m cells
         → Moves (next ticketRules n v 0 t l cs (step 0) .answer) (still book n v 0 l cs 0) m (2 * n)
-    -- a read at 2n+3 if its first three looks agree, else at 3n+6."
-    pub read-moves : (p : ℕ) → 1 ≤ p → p ≤ n → (u m : ℕ) (cells : List Cell) → model .op p ≡ open-with u m cells
+    -- a read at 2n+3 if its first three looks agree, else at 3n+6." (02) "and the others still end within their own sub-steps"
+    pub read-moves : (p : ℕ) → 1 ≤ p → p ≤ n → model .retired p ≡ false → (u m : ℕ) (cells : List Cell) → model .op p ≡ open-with u m cells
         → Moves (next ticketRules n v 0 t l cs (step p) .answer) (still book n v 0 l cs p) m (pick (failed n m cells) (3 * n + 6) (2 * n + 3))
     -- "Every new ticket is an unbarred one of the 3n+3 names."
     pub new-ticket : (u : ℕ) (cells : List Cell) → model .op 0 ≡ open-with u n cells
         → NewTicket n (model .stamp 0 .cur) (next ticketRules n v 0 t l cs (step 0) .table) (excludedTickets (model .stamp 0) cells)
+    -- (02) "Its cells remain just as they stand": whatever call follows
+    pub retired-cells : (p : ℕ) → p ≤ n → model .retired p ≡ true → (c : Call)
+        → Stand (index n) (Pair n) p (ranFrom ticketRules n v 0 t l cs .table) (next ticketRules n v 0 t l cs c .table)

@@ -13,6 +13,7 @@ use Rattle.protocol.specs.Read.{stampIn, looksAtOther, looksThird, showing}
 -- a reader that has found a word, and one with a result
 abbrev withFound : Reader → ℕ → Reader
 withFound r w = record {
+  retired = r .retired;
   active = r .active;
   second = r .second;
   moved = r .moved;
@@ -25,6 +26,7 @@ withFound r w = record {
 
 abbrev withResult : Reader → Bool → ℕ → Reader
 withResult r late w = record {
+  retired = r .retired;
   active = r .active;
   second = late;
   moved = r .moved;

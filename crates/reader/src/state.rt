@@ -1,7 +1,7 @@
-// A fresh reader, one that begins a read, and question 4 of one reader.
+// A fresh reader, one that begins a read, one that is retired, and question 4 of one reader.
 use common::Reader;
 ghost use mathlib.Core.Path.{_≡_};
-ghost use Rattle.common.specs.State.{readerBegins};
+ghost use Rattle.common.specs.State.{asCounted, readerBegins, retires};
 ghost use Rattle.common.specs.SetUp.{freshReader};
 ghost use Rattle.protocol.specs.State.{spanOk, openReadOk, readerOk};
 
@@ -11,6 +11,7 @@ pub fn fresh_reader() -> Reader
 {
     let none = words::stamp::no_stamp();
     Reader {
+        retired: false,
         active: false,
         second: false,
         moved: 0,
@@ -31,6 +32,26 @@ pub fn open_reader(r: Reader) -> Reader
     next.second = false;
     next.moved = 0;
     next.result = 0;
+    next
+}
+
+// A reader of either kind is retired.
+pub fn retire_reader(r: Reader) -> Reader
+    ensures { λ q. ⌜ q ≡ retires r ⌝ }
+{
+    let mut next = r;
+    next.retired = true;
+    next
+}
+
+// A reader of either kind as questions 4 and 7 see it: the read of one that is retired counts as open no longer.
+pub fn as_counted(r: Reader) -> Reader
+    ensures { λ q. ⌜ q ≡ asCounted r ⌝ }
+{
+    let mut next = r;
+    if r.retired {
+        next.active = false;
+    }
     next
 }
 

@@ -10,31 +10,34 @@ use lib.Dec.{leb}
 use borrow.Author.Tests.{leb-true, le-leb, lt-leb, eq-eqb, ne-eqb}
 use Rattle.words.specs.Counting.{one}
 use Rattle.words.specs.Row.{rowOf}
-use Rattle.words.proofs.Laws.Choice.{left, right}
-use Rattle.words.proofs.Laws.Counting.{count-some}
 use Rattle.common.specs.declared.Writer.{Writer}
 use Rattle.common.specs.declared.Reader.{Reader}
 use Rattle.common.specs.declared.State.{State}
-use Rattle.common.specs.declared.Answer.the-variants.{Accepted, Moved, Refused}
+use Rattle.common.specs.declared.Answer.{Answer}
+use Rattle.common.specs.declared.Answer.the-variants.{Accepted, Moved}
 use Rattle.common.specs.declared.Refusal.{Refusal}
-use Rattle.common.specs.declared.Refusal.the-variants.{Readers, Cells, Rows, Range, Processor, Busy, Full, Idle, Spent}
+use Rattle.common.specs.declared.Refusal.the-variants.{Readers, Cells, Rows, Range, Busy, Full, Idle, Spent}
 use Rattle.common.specs.Answers.{reply}
-use Rattle.common.specs.Head.{isProcessor, hasRoom, began}
-use Rattle.common.specs.State.{readerAt, openIn, withWriter, withReader, writerBegins, readerBegins, valueIn}
+use Rattle.common.specs.Head.{hasRoom, began}
+use Rattle.common.specs.State.{readerAt, isRetired, openIn, withWriter, withReader, writerBegins, readerBegins, valueIn}
 use Rattle.common.specs.Rules.{Rules, stateOk, InRange}
 use Rattle.common.specs.SetUp.{Outcome, refused, freshState, startRow, noState, setUpOf}
-use Rattle.common.specs.Register.{beginWriteOf, beginReadOf, stepWriter, stepReader, stepOf}
-use Rattle.common.proofs.Range.{test-range}
+use Rattle.common.specs.Register.{beginWriteOf, openRead, beginReadOf, stepWriter, stepReader, stepOpen, stepOf, retiring, retireOf}
+use Rattle.common.proofs.Range.{test-range, reader-room}
 use Rattle.register.specs.declared.calls.Called.{Called}
+use Rattle.register.specs.declared.asked.Asked.{Asked}
+use Rattle.register.specs.declared.asked.Asked.the-variants.{Yes, No}
+use Rattle.register.specs.Asked.{askedOf}
 use Rattle.register.specs.Contract.{TableOk, writeStepped, readStepped, outcome}
+use Rattle.register.proofs.AskedLaws.{goes-on, turned-down}
 
 -- Equal outcomes have equal replies.
 pub with-reply : {o q : Outcome} → o ≡ q → (o ≡ q) × (reply (o .answer) ≡ reply (q .answer))
 with-reply e = (e, ap (λ (o : Outcome). reply (o .answer)) e)
 
-pub refusal : (c : Called) (why : Refusal) (s : State) (t l : List ℕ) → c .answer ≡ Refused why → c .state ≡ s
-    → outcome c t l ≡ refused why s t l
-refusal c why s t l e f = λ i. record { answer = e i; state = f i; table = t; log = l }
+pub gives : (c : Called) (a : Answer) (s : State) (t l : List ℕ) → c .answer ≡ a → c .state ≡ s
+    → outcome c t l ≡ record { answer = a; state = s; table = t; log = l }
+gives c a s t l e f = λ i. record { answer = e i; state = f i; table = t; log = l }
 
 -- More than 16 readers are out of range.
 pub many-readers : (R : Rules) (s : State) (cells log : ℕ) → 16 < s .head .n → false ≡ stateOk R s cells log
@@ -44,14 +47,8 @@ many-readers R s cells log h = at (stateOk R s cells log) refl
     at false e = refl
     at true e = absurd (omega (arith, test-range R s cells log e .head-ok .n-high))
 
--- Questions 5 and 7.
+-- Question 7.
 module _ (s : State) where
-  pub processor-low : (least p : ℕ) → isProcessor (s .head) least p ≡ true → least ≤ p
-  processor-low least p e = leb-true least p (left (leb least p) _ e)
-
-  pub processor-high : (least p : ℕ) → isProcessor (s .head) least p ≡ true → p ≤ s .head .n
-  processor-high least p e = leb-true p (s .head .n) (right (leb least p) _ e)
-
   pub room-told : (opens : ℕ) (r b : Bool) → opens ≡ openIn s → r ≡ hasRoom (s .head) opens → r ≡ b → hasRoom (s .head) (openIn s) ≡ b
   room-told opens r b e f g = subst (λ (m : ℕ). hasRoom (s .head) m ≡ b) e (sym f ∙ g)
 
@@ -68,9 +65,27 @@ module _ (R : Rules) (s : State) (cells log : ℕ) (k : InRange R s cells log) w
   pub write-row : s .writer .active ≡ true → s .head .used < log
   write-row a = omega (arith, k .head-ok .room, k .head-ok .log-is, ap one a)
 
-  pub read-row : (p : ℕ) → 1 ≤ p → p ≤ s .head .n → readerAt s (p - 1) .active ≡ true → s .head .used < log
-  read-row p p1 pn a =
-      omega (arith, k .head-ok .room, k .head-ok .log-is, count-some (s .head .n) (λ i. readerAt s i .active) (p - 1) (omega arith) a)
+  pub read-row : (p : ℕ) → 1 ≤ p → p ≤ s .head .n → isRetired s p ≡ false → readerAt s (p - 1) .active ≡ true → s .head .used < log
+  read-row p p1 pn free a = omega (arith, reader-room s p p1 free pn R cells log k a, k .head-ok .log-is)
+
+-- Begin a read.
+module _ (s : State) (t l : List ℕ) (p : ℕ) where
+  pub read-busy : readerAt s (p - 1) .active ≡ true → refused Busy s t l ≡ openRead s t l p
+  read-busy a = rw a
+
+  module _ (a : readerAt s (p - 1) .active ≡ false) where
+    pub read-full : hasRoom (s .head) (openIn s) ≡ false → refused Full s t l ≡ openRead s t l p
+    read-full h = rw (a, h)
+
+    pub read-begins : hasRoom (s .head) (openIn s) ≡ true
+        → record {
+          answer = Accepted;
+          state = withReader s (p - 1) (readerBegins (readerAt s (p - 1))) (began (s .head));
+          table = t;
+          log = set l (s .head .used) (rowOf 3 p 0);
+        }
+        ≡ openRead s t l p
+    read-begins h = rw (a, h)
 
 module _ (R : Rules) (s : State) (t l : List ℕ) where
   -- A sub-step of the write goes on, or ends it.
@@ -148,60 +163,50 @@ module _ (R : Rules) (s : State) (t l : List ℕ) where
         write-begins h m = rw (e, h, m, a)
 
   module _ (p : ℕ) where
-    -- Begin a read.
-    pub read-range : ok ≡ false → refused Range s t l ≡ beginReadOf R s t l p
-    unfolding beginReadOf
-    read-range e = rw e
-
-    pub read-processor : ok ≡ true → isProcessor (s .head) 1 p ≡ false → refused Processor s t l ≡ beginReadOf R s t l p
-    unfolding beginReadOf
-    read-processor e q = rw (e, q)
-
-    module _ (e : stateOk R s (length t) (length l) ≡ true) (q : isProcessor (s .head) 1 p ≡ true) where
-      pub read-busy : readerAt s (p - 1) .active ≡ true → refused Busy s t l ≡ beginReadOf R s t l p
-      unfolding beginReadOf
-      read-busy a = rw (e, q, a)
-
-      pub read-full : readerAt s (p - 1) .active ≡ false → room ≡ false → refused Full s t l ≡ beginReadOf R s t l p
-      unfolding beginReadOf
-      read-full a h = rw (e, q, a, h)
-
-      pub read-begins : readerAt s (p - 1) .active ≡ false → room ≡ true
-          → record {
-            answer = Accepted;
-            state = withReader s (p - 1) (readerBegins (readerAt s (p - 1))) (began (s .head));
-            table = t;
-            log = set l (s .head .used) (rowOf 3 p 0);
-          }
-          ≡ beginReadOf R s t l p
-      unfolding beginReadOf
-      read-begins a h = rw (e, q, a, h)
-
     -- A sub-step.
-    pub step-range : ok ≡ false → refused Range s t l ≡ stepOf R s t l p
-    unfolding stepOf
-    step-range e = rw e
+    module _ (z : p ≡ 0) where
+      pub step-writes : s .writer .active ≡ true → stepWriter R s t l ≡ stepOpen R s t l p
+      step-writes a = rw (eq-eqb p 0 z, a)
 
-    pub step-processor : ok ≡ true → isProcessor (s .head) 0 p ≡ false → refused Processor s t l ≡ stepOf R s t l p
-    unfolding stepOf
-    step-processor e q = rw (e, q)
+      pub step-no-write : s .writer .active ≡ false → refused Idle s t l ≡ stepOpen R s t l p
+      step-no-write a = rw (eq-eqb p 0 z, a)
 
-    module _ (e : stateOk R s (length t) (length l) ≡ true) (q : isProcessor (s .head) 0 p ≡ true) where
-      pub step-writes : p ≡ 0 → s .writer .active ≡ true → stepWriter R s t l ≡ stepOf R s t l p
+    module _ (z : p ≢ 0) where
+      pub step-reads : readerAt s (p - 1) .active ≡ true → stepReader R s t l p ≡ stepOpen R s t l p
+      step-reads a = rw (ne-eqb p 0 z, a)
+
+      pub step-no-read : readerAt s (p - 1) .active ≡ false → refused Idle s t l ≡ stepOpen R s t l p
+      step-no-read a = rw (ne-eqb p 0 z, a)
+
+    -- The three calls that a processor is asked for, where questions 4, 5 and 13 are passed, and where one is not.
+    module _ (a : Asked) where
+      abbrev Is : ℕ → Type 0
+      Is least = a ≡ askedOf R s (length t) (length l) least p
+
+      pub read-asked : Is 1 → a ≡ Yes → openRead s t l p ≡ beginReadOf R s t l p
+      unfolding beginReadOf
+      read-asked = goes-on R s t l 1 p _ a
+
+      pub step-asked : Is 0 → a ≡ Yes → stepOpen R s t l p ≡ stepOf R s t l p
       unfolding stepOf
-      step-writes z a = rw (e, q, eq-eqb p 0 z, a)
+      step-asked = goes-on R s t l 0 p _ a
 
-      pub step-no-write : p ≡ 0 → s .writer .active ≡ false → refused Idle s t l ≡ stepOf R s t l p
-      unfolding stepOf
-      step-no-write z a = rw (e, q, eq-eqb p 0 z, a)
+      pub retire-asked : Is 1 → a ≡ Yes → retiring s t l p ≡ retireOf R s t l p
+      unfolding retireOf
+      retire-asked = goes-on R s t l 1 p _ a
 
-      pub step-reads : p ≢ 0 → readerAt s (p - 1) .active ≡ true → stepReader R s t l p ≡ stepOf R s t l p
-      unfolding stepOf
-      step-reads z a = rw (e, q, ne-eqb p 0 z, a)
+      module _ (why : Refusal) where
+        pub read-refused : Is 1 → a ≡ No why → refused why s t l ≡ beginReadOf R s t l p
+        unfolding beginReadOf
+        read-refused f = turned-down R s t l 1 p _ a f why
 
-      pub step-no-read : p ≢ 0 → readerAt s (p - 1) .active ≡ false → refused Idle s t l ≡ stepOf R s t l p
-      unfolding stepOf
-      step-no-read z a = rw (e, q, ne-eqb p 0 z, a)
+        pub step-refused : Is 0 → a ≡ No why → refused why s t l ≡ stepOf R s t l p
+        unfolding stepOf
+        step-refused f = turned-down R s t l 0 p _ a f why
+
+        pub retire-refused : Is 1 → a ≡ No why → refused why s t l ≡ retireOf R s t l p
+        unfolding retireOf
+        retire-refused f = turned-down R s t l 1 p _ a f why
 
 -- Set-up.
 module _ (R : Rules) (n v fresh : ℕ) (t l : List ℕ) where

@@ -23,7 +23,7 @@ use Rattle.common.specs.Calls.{Call, LowCalls}
 use Rattle.common.specs.CallWords.{kindOf, isCall, callIn, answerWord, callsIn}
 use Rattle.common.specs.Rules.{Rules}
 use Rattle.common.specs.SetUp.{Outcome, setUpOf}
-use Rattle.common.specs.Register.{beginWriteOf, beginReadOf, stepOf, callOf, runOf}
+use Rattle.common.specs.Register.{beginWriteOf, beginReadOf, stepOf, retireOf, callOf, runOf}
 use Rattle.common.specs.Book.{Telling}
 use Rattle.common.specs.Whole.{AsBook}
 use Rattle.common.proofs.Kind.{kind-kept}
@@ -63,9 +63,14 @@ module _ (R : Rules) (s : State) (t l : List ℕ) (w : ℕ) where
   unfolding callOf
   calls-read ne e = rw (ne-eqb (kindOf w) 1 ne, eq-eqb (kindOf w) 2 e)
 
-  pub calls-step : kindOf w ≢ 1 → kindOf w ≢ 2 → stepOf R s t l (low 32 w) ≡ callOf R s t l (callIn w)
-  unfolding callOf
-  calls-step ne ne2 = rw (ne-eqb (kindOf w) 1 ne, ne-eqb (kindOf w) 2 ne2)
+  module _ (ne : kindOf w ≢ 1) (ne2 : kindOf w ≢ 2) where
+    pub calls-step : kindOf w ≡ 3 → stepOf R s t l (low 32 w) ≡ callOf R s t l (callIn w)
+    unfolding callOf
+    calls-step e = rw (ne-eqb (kindOf w) 1 ne, ne-eqb (kindOf w) 2 ne2, eq-eqb (kindOf w) 3 e)
+
+    pub calls-retire : kindOf w ≢ 3 → retireOf R s t l (low 32 w) ≡ callOf R s t l (callIn w)
+    unfolding callOf
+    calls-retire ne3 = rw (ne-eqb (kindOf w) 1 ne, ne-eqb (kindOf w) 2 ne2, ne-eqb (kindOf w) 3 ne3)
 
 -- Where no call is made, and where the first word is one.
 abbrev stopped : State → List ℕ → List ℕ → List ℕ → MadeCalls
@@ -207,6 +212,7 @@ module _ (R : Rules) (n v fresh : ℕ) (t l words places : List ℕ) where
           cells-are = w .cells-are;
           used-is = w .used-is;
           rows-are = w .rows-are;
+          retired-are = w .retired-are;
           cells-beyond = w .cells-beyond;
           rows-beyond = w .rows-beyond;
           ordered = subst (λ (rows : List ℕ). (o : List ℕ) × Orders rows o) (sym (w .rows-are)) (w .ordered);

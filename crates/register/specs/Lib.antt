@@ -1,3 +1,4 @@
 pub mod Rules
+pub mod Asked
 pub mod Contract
 pub mod Run

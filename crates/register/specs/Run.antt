@@ -1,5 +1,5 @@
 -- A list of calls, made from words, of a register with the rules R.
-use Prim.Native.Nat.{ℕ}
+use Prim.Native.Nat.{ℕ, _≤_}
 use mathlib.Core.Path.{_≡_}
 use mathlib.Core.List.{List, [], _++_, map}
 use lib.Dec.{eqb}
@@ -8,6 +8,7 @@ use Rattle.words.specs.Choice.{pick}
 use Rattle.history.specs.Bands.{NoBands}
 use Rattle.history.specs.Linearization.{Orders, NeverOlder}
 use Rattle.common.specs.declared.State.{State}
+use Rattle.common.specs.State.{isRetired}
 use Rattle.common.specs.Calls.{Call}
 use Rattle.common.specs.CallWords.{answerWord, callsIn}
 use Rattle.common.specs.Rules.{Rules}
@@ -58,6 +59,8 @@ module _ {Stamp Cell : Type 0} (R : Rules) (B : Telling Stamp Cell) (W : List Ca
     pub cells-are : take (R .cells n) (m .table) ≡ modelOf B n v fresh l (callsIn words places) .model .table
     pub used-is : m .state .head .used ≡ length (modelOf B n v fresh l (callsIn words places) .model .rows)
     pub rows-are : take (m .state .head .used) (m .log) ≡ modelOf B n v fresh l (callsIn words places) .model .rows
+    -- (02) "the book keeps that set": the state's retired readers are the book's
+    pub retired-are : (p : ℕ) → p ≤ n → isRetired (m .state) p ≡ modelOf B n v fresh l (callsIn words places) .model .retired p
     -- "every cell and row beyond is as set-up left it"
     pub cells-beyond : drop (R .cells n) (m .table) ≡ drop (R .cells n) (setUpOf R n v fresh t l .table)
     pub rows-beyond : drop (m .state .head .used) (m .log) ≡ drop (m .state .head .used) (setUpOf R n v fresh t l .log)

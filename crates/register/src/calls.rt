@@ -1,4 +1,6 @@
-// Begins and sub-steps, of either register.
+// Begins, sub-steps and retirements, of either register.
+use super::asked::Asked;
+use super::asked::ask;
 use super::kinds::may_write;
 use super::kinds::read_step;
 use super::kinds::write_step;
@@ -8,20 +10,21 @@ use common::Answer;
 use common::Refusal;
 use common::State;
 use common::limits::has_room;
-use common::limits::is_processor;
 use common::rows::row_of;
 use reader::looks::value_in;
 use reader::state::open_reader;
+use reader::state::retire_reader;
 use writer::state::open_writer;
 ghost use mathlib.Core.Path.{_≡_};
-ghost use mathlib.Core.Bool.{true};
+ghost use mathlib.Core.Bool.{true, false};
 ghost use Prim.Native.Nat.{_-_, _≤_};
 ghost use lib.ListN.{length};
 ghost use Rattle.common.specs.Answers.{reply};
-ghost use Rattle.common.specs.State.{readerAt};
+ghost use Rattle.common.specs.State.{readerAt, isRetired, withReader, retires};
 ghost use Rattle.common.specs.Rules.{InRange};
-ghost use Rattle.common.specs.Register.{beginWriteOf, beginReadOf, stepWriter, stepReader, stepOf};
+ghost use Rattle.common.specs.Register.{beginWriteOf, openRead, beginReadOf, stepWriter, stepReader, stepOpen, stepOf, retireOf};
 ghost use Rattle.register.specs.Rules.{rulesOf};
+ghost use Rattle.register.specs.Asked.{Passed};
 ghost use Rattle.register.specs.Contract.{outcome};
 
 // What a call gives: its answer, and the state to hand to the next one.
@@ -72,37 +75,43 @@ pub fn begin_write(s: State, table: &mut [u64], log: &mut [u64], value: u32) -> 
     refuse(s, Refusal::Range)
 }
 
+// Begin a read by reader p, as far as questions 6 and 7 let it.
+fn open_read(s: State, table: &mut [u64], log: &mut [u64], p: u32) -> Called
+    requires { ⌜ Passed (rulesOf (s .head .counted)) s (length (now table)) (length (now log)) 1 p ⌝ }
+    ensures { λ r. ⌜ outcome r (now (table .exit)) (now (log .exit)) ≡ openRead s (now (table .entry)) (now (log .entry)) p ⌝ }
+{
+    let h = s.head;
+    let i = p as usize - 1;
+    let r = s.readers[i];
+    if r.active {
+        return refuse(s, Refusal::Busy);
+    }
+    if has_room(h, open_in(s)) {
+        let used = h.used;
+        log[used] = row_of(3, p as u8, 0);
+        let next = open_reader(r);
+        let mut state = s;
+        let more = used + 1;
+        state.head.used = more;
+        state.readers[i] = next;
+        return Called {
+            answer: Answer::Accepted,
+            state: state,
+        };
+    }
+    refuse(s, Refusal::Full)
+}
+
 // Begin a read by reader p.
 pub fn begin_read(s: State, table: &mut [u64], log: &mut [u64], p: u32) -> Called
     ensures { λ r. ⌜ (outcome r (now (table .exit)) (now (log .exit)) ≡ beginReadOf (rulesOf (s .head .counted)) s (now (table .entry)) (now (log .entry)) p)
         × (reply (r .answer) ≡ reply (beginReadOf (rulesOf (s .head .counted)) s (now (table .entry)) (now (log .entry)) p .answer)) ⌝ }
 {
-    if state_ok(s, table.len(), log.len()) {
-        let h = s.head;
-        if is_processor(h, 1, p) {
-            let i = p as usize - 1;
-            let r = s.readers[i];
-            if r.active {
-                return refuse(s, Refusal::Busy);
-            }
-            if has_room(h, open_in(s)) {
-                let used = h.used;
-                log[used] = row_of(3, p as u8, 0);
-                let next = open_reader(r);
-                let mut state = s;
-                let more = used + 1;
-                state.head.used = more;
-                state.readers[i] = next;
-                return Called {
-                    answer: Answer::Accepted,
-                    state: state,
-                };
-            }
-            return refuse(s, Refusal::Full);
-        }
-        return refuse(s, Refusal::Processor);
+    let answer = ask(s, table.len(), log.len(), 1, p);
+    match answer {
+        Asked::Yes => open_read(s, table, log, p),
+        Asked::No(why) => refuse(s, why),
     }
-    refuse(s, Refusal::Range)
 }
 
 // A sub-step of the open write.
@@ -134,7 +143,7 @@ fn step_writer(s: State, table: &mut [u64], log: &mut [u64]) -> Called
 
 // A sub-step of reader p's open read.
 fn step_reader(s: State, table: &mut [u64], log: &mut [u64], p: u32) -> Called
-    requires { ⌜ InRange (rulesOf (s .head .counted)) s (length (now table)) (length (now log)) × (1 ≤ p) × (p ≤ s .head .n) × (readerAt s (p - 1) .active ≡ true) ⌝ }
+    requires { ⌜ InRange (rulesOf (s .head .counted)) s (length (now table)) (length (now log)) × (1 ≤ p) × (p ≤ s .head .n) × (isRetired s p ≡ false) × (readerAt s (p - 1) .active ≡ true) ⌝ }
     ensures { λ r. ⌜ outcome r (now (table .exit)) (now (log .exit)) ≡ stepReader (rulesOf (s .head .counted)) s (now (table .entry)) (now (log .entry)) p ⌝ }
 {
     let h = s.head;
@@ -160,28 +169,61 @@ fn step_reader(s: State, table: &mut [u64], log: &mut [u64], p: u32) -> Called
     }
 }
 
+// A sub-step of processor p, if it has an open operation (8).
+fn step_open(s: State, table: &mut [u64], log: &mut [u64], p: u32) -> Called
+    requires { ⌜ Passed (rulesOf (s .head .counted)) s (length (now table)) (length (now log)) 0 p ⌝ }
+    ensures { λ r. ⌜ outcome r (now (table .exit)) (now (log .exit)) ≡ stepOpen (rulesOf (s .head .counted)) s (now (table .entry)) (now (log .entry)) p ⌝ }
+{
+    if p == 0 {
+        let w = s.writer;
+        if w.active {
+            return step_writer(s, table, log);
+        }
+        return refuse(s, Refusal::Idle);
+    }
+    let i = p as usize - 1;
+    let r = s.readers[i];
+    if r.active {
+        return step_reader(s, table, log, p);
+    }
+    refuse(s, Refusal::Idle)
+}
+
 // A sub-step of processor p.
 pub fn step(s: State, table: &mut [u64], log: &mut [u64], p: u32) -> Called
     ensures { λ r. ⌜ (outcome r (now (table .exit)) (now (log .exit)) ≡ stepOf (rulesOf (s .head .counted)) s (now (table .entry)) (now (log .entry)) p)
         × (reply (r .answer) ≡ reply (stepOf (rulesOf (s .head .counted)) s (now (table .entry)) (now (log .entry)) p .answer)) ⌝ }
 {
-    if state_ok(s, table.len(), log.len()) {
-        if is_processor(s.head, 0, p) {
-            if p == 0 {
-                let w = s.writer;
-                if w.active {
-                    return step_writer(s, table, log);
-                }
-                return refuse(s, Refusal::Idle);
-            }
-            let i = p as usize - 1;
-            let r = s.readers[i];
-            if r.active {
-                return step_reader(s, table, log, p);
-            }
-            return refuse(s, Refusal::Idle);
-        }
-        return refuse(s, Refusal::Processor);
+    let answer = ask(s, table.len(), log.len(), 0, p);
+    match answer {
+        Asked::Yes => step_open(s, table, log, p),
+        Asked::No(why) => refuse(s, why),
     }
-    refuse(s, Refusal::Range)
+}
+
+// Reader p is in the set of the retired.
+fn withdraw(s: State, p: u32) -> Called
+    requires { ⌜ (1 ≤ p) × (p ≤ 16) ⌝ }
+    ensures { λ r. ⌜ (r .answer ≡ Answer.Accepted) × (r .state ≡ withReader s (p - 1) (retires (readerAt s (p - 1))) (s .head)) ⌝ }
+{
+    let i = p as usize - 1;
+    let next = retire_reader(s.readers[i]);
+    let mut state = s;
+    state.readers[i] = next;
+    Called {
+        answer: Answer::Accepted,
+        state: state,
+    }
+}
+
+// Retire reader p, for good. The table and the log stay as they are: they are lent for question 4.
+pub fn retire(s: State, table: &mut [u64], log: &mut [u64], p: u32) -> Called
+    ensures { λ r. ⌜ (outcome r (now (table .exit)) (now (log .exit)) ≡ retireOf (rulesOf (s .head .counted)) s (now (table .entry)) (now (log .entry)) p)
+        × (reply (r .answer) ≡ reply (retireOf (rulesOf (s .head .counted)) s (now (table .entry)) (now (log .entry)) p .answer)) ⌝ }
+{
+    let answer = ask(s, table.len(), log.len(), 1, p);
+    match answer {
+        Asked::Yes => withdraw(s, p),
+        Asked::No(why) => refuse(s, why),
+    }
 }

@@ -5,6 +5,7 @@ use super::kinds::writer_ok;
 use common::State;
 use common::limits::count_one;
 use common::limits::head_ok;
+use reader::state::as_counted;
 ghost use mathlib.Core.Path.{_≡_};
 ghost use Prim.Native.Nat.{_≤_};
 ghost use Rattle.common.specs.State.{openReaders, openIn};
@@ -20,7 +21,7 @@ fn readers_ok(s: State) -> bool
     let mut ok = true;
     let mut i: usize = 0;
     while i < n as usize {
-        let r = s.readers[i];
+        let r = as_counted(s.readers[i]);
         let one = reader_ok(counted, r, n as u8);
         ok = ok & one;
         i += 1;
@@ -28,7 +29,7 @@ fn readers_ok(s: State) -> bool
     ok
 }
 
-// The readers with an open read.
+// The readers whose open read counts.
 fn open_readers(s: State) -> usize
     requires { ⌜ s .head .n ≤ 16 ⌝ }
     ensures { λ m. ⌜ m ≡ openReaders s ⌝ }
@@ -37,7 +38,7 @@ fn open_readers(s: State) -> usize
     let mut m: usize = 0;
     let mut i: usize = 0;
     while i < n as usize {
-        let r = s.readers[i];
+        let r = as_counted(s.readers[i]);
         m = m + count_one(r.active);
         i += 1;
     }

@@ -2,6 +2,7 @@
 use super::calls::Called;
 use super::calls::begin_read;
 use super::calls::begin_write;
+use super::calls::retire;
 use super::calls::step;
 use super::set_up::set_up_of;
 use common::Answer;
@@ -46,7 +47,10 @@ fn make_call(s: State, table: &mut [u64], log: &mut [u64], word: u64) -> Called
     if kind == 2 {
         return begin_read(s, table, log, number);
     }
-    step(s, table, log, number)
+    if kind == 3 {
+        return step(s, table, log, number);
+    }
+    retire(s, table, log, number)
 }
 
 // The calls in the words, from a state on, with their answers.
@@ -116,9 +120,9 @@ fn run_of(
     }
 }
 
-// Set-up, and then the calls in the words, with their answers; no call if set-up is refused. A word's upper half is the call's kind,
-// 1 begin a write, 2 begin a read, 3 a sub-step, and its lower half the number. An answer's upper half is the refusal number, and its
-// lower half the sub-step's. The calls end at the first word that is none, and where the answers have no place left.
+// Set-up, and then the calls in the words, with their answers; no call if set-up is refused. A word's upper half is the call's kind, 1
+// begin a write, 2 begin a read, 3 a sub-step, 4 retire a reader, and its lower half the number. An answer's upper half is the refusal
+// number, and its lower half the sub-step's. The calls end at the first word that is none, and where the answers have no place left.
 pub fn run(
     n: u32,
     value: u32,

@@ -11,6 +11,7 @@ use Rattle.common.specs.Calls.{write, read, step}
 use Rattle.sessions.specs.Session.{Session, stamp, tickets, cell, row, judged, tried, denied, run}
 use Rattle.sessions.specs.Lent.{lent, paper, times}
 use Rattle.sessions.specs.Walk.{walkSessions}
+use Rattle.sessions.specs.Retired.{retiredSessions}
 use Rattle.sessions.specs.Counted.{countedSessions}
 
 -- a cell that announces nothing
@@ -227,5 +228,5 @@ table =
     (105 ∷ 105 ∷ 105 ∷ 108 ∷ 0 ∷ 106 ∷ 1 ∷ 2 ∷ 108 ∷ [])
     (0x00000009080FFF00 ∷ 0x00000000FFFFFF00 ∷ 77 ∷ 77 ∷ [])
     (0x5010000000000007 ∷ 0x1000000000000009 ∷ 0x2000000000000000 ∷ 55 ∷ 55 ∷ [])
-    -- tickets that walk (document 02, card 2), and the counted register (card 3)
-    ∷ walkSessions ++ countedSessions
+    -- of document 02: tickets that walk (card 2), the counted register (card 3), and retired readers (card 1)
+    ∷ walkSessions ++ countedSessions ++ retiredSessions

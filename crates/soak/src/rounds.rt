@@ -47,7 +47,7 @@ fn fewer(a: usize, b: usize) -> usize
 
 // A log's length.
 fn rows_of(k: u64) -> usize
-    ensures { λ r. ⌜ r ≤ 4096 ⌝ }
+    ensures { λ r. ⌜ (0 < r) × (r ≤ 4096) ⌝ }
 {
     match k {
         0 => 3,
@@ -160,19 +160,21 @@ fn run_words(sum: u64, g: Given, rows: usize, words: &[u64], answers: &mut [u64]
     )
 }
 
-// Fills the words from the generator's word x on, for n readers, and makes their calls.
+// Fills the words from the generator's word x on, for n readers, and makes their calls. With that span mostly some readers are left when
+// the log is full.
 fn run_filled(sum: u64, g: Given, rows: usize, n: u64, burst: u64, x: u64, words: &mut [u64]) -> u64
-    requires { ⌜ (n ≤ 16) × (rows ≤ 4096) × (0 < burst) ⌝ }
+    requires { ⌜ (n ≤ 16) × (0 < rows) × (rows ≤ 4096) × (0 < burst) ⌝ }
 {
     let mut answers = long_marks();
     let count = fewer(words.len(), 65536);
-    fill(words, source_of(x), n, burst);
+    let span = 11 * (rows as u64);
+    fill(words, source_of(x, span), n, burst, span);
     run_words(sum, g, rows, words, &mut answers[0..count])
 }
 
 // As many calls as the log's length asks for.
 fn run_round(sum: u64, g: Given, rows: usize, n: u64, burst: u64, x: u64) -> u64
-    requires { ⌜ (n ≤ 16) × (rows ≤ 4096) × (0 < burst) ⌝ }
+    requires { ⌜ (n ≤ 16) × (0 < rows) × (rows ≤ 4096) × (0 < burst) ⌝ }
 {
     let mut words = long_marks();
     let count = fewer(32 * rows, 65536);

@@ -1,5 +1,5 @@
 // The calls of a round: mostly sub-steps of one processor after another, in bursts; begins; now and then a processor number out of range.
-// One processor is passed over at first choice, and another one later.
+// One processor is passed over at first choice, and another one later. Now and then one is unplugged behind its burst.
 use super::sum::mix;
 ghost use Prim.Native.Nat.{_<_, _≤_};
 
@@ -10,24 +10,18 @@ const READ: u64 = 0x2_0000_0000;
 
 const STEP: u64 = 0x3_0000_0000;
 
-// The generator's word, the processor whose turn it is, the sub-steps left of its burst, the processor passed over, and the call.
+const RETIRE: u64 = 0x4_0000_0000;
+
+// The generator's word, the processor whose turn it is, the sub-steps left of its burst, the processor passed over, the life left until one
+// is unplugged, whether that is the one whose turn it is, and the call.
 pub(crate) struct Source {
     pub x: u64,
     pub processor: u64,
     pub left: u64,
     pub paused: u64,
+    pub life: u64,
+    pub last: bool,
     pub word: u64,
-}
-
-// The source that starts from a word of the generator.
-pub(crate) fn source_of(x: u64) -> Source {
-    Source {
-        x: x,
-        processor: 0,
-        left: 0,
-        paused: 0,
-        word: 0,
-    }
 }
 
 // A number from 0 to k-1.
@@ -35,6 +29,34 @@ fn pick(x: u64, k: u64) -> u64
     requires { ⌜ 0 < k ⌝ }
 {
     (x >> 32) % k
+}
+
+// Another life, shorter than the span. A turn takes a burst of it.
+fn renew(s: Source, span: u64) -> Source
+    requires { ⌜ 0 < span ⌝ }
+{
+    let x = mix(s.x);
+    let mut t = s;
+    t.x = x;
+    t.life = pick(x, span);
+    t.last = false;
+    t
+}
+
+// The source that starts from a word of the generator.
+pub(crate) fn source_of(x: u64, span: u64) -> Source
+    requires { ⌜ 0 < span ⌝ }
+{
+    let s = Source {
+        x: x,
+        processor: 0,
+        left: 0,
+        paused: 0,
+        life: 0,
+        last: false,
+        word: 0,
+    };
+    renew(s, span)
 }
 
 // A call, where the generator has come to x.
@@ -102,6 +124,18 @@ fn begin(s: Source, x: u64) -> Source {
     called(s, x, READ | s.processor)
 }
 
+// The processor whose turn it was is unplugged, at times any number from 0 to n+1.
+fn unplug(s: Source, n: u64, span: u64) -> Source
+    requires { ⌜ (n ≤ 16) × (0 < span) ⌝ }
+{
+    let x = mix(s.x);
+    if (x >> 32) % 8 == 0 {
+        let y = mix(x);
+        return renew(called(s, y, RETIRE | pick(y, n + 2)), span);
+    }
+    renew(called(s, x, RETIRE | s.processor), span)
+}
+
 // The call at the head of a burst.
 fn head(s: Source, n: u64) -> Source
     requires { ⌜ n ≤ 16 ⌝ }
@@ -124,9 +158,25 @@ fn head(s: Source, n: u64) -> Source
     called(s, x, STEP | s.processor)
 }
 
+// The call at the head of a burst, with so much life left.
+fn live(s: Source, n: u64, life: u64) -> Source
+    requires { ⌜ n ≤ 16 ⌝ }
+{
+    let mut t = s;
+    t.life = life;
+    head(t, n)
+}
+
+// The begin at the head of a last burst.
+fn begin_last(s: Source) -> Source {
+    let mut t = s;
+    t.last = true;
+    begin(t, s.x)
+}
+
 // The next call.
-fn next(s: Source, n: u64, burst: u64) -> Source
-    requires { ⌜ (n ≤ 16) × (0 < burst) ⌝ }
+fn next(s: Source, n: u64, burst: u64, span: u64) -> Source
+    requires { ⌜ (n ≤ 16) × (0 < burst) × (0 < span) ⌝ }
 {
     if 0 < s.left {
         let mut t = s;
@@ -134,20 +184,26 @@ fn next(s: Source, n: u64, burst: u64) -> Source
         t.word = STEP | s.processor;
         return t;
     }
+    if s.last {
+        return unplug(s, n, span);
+    }
     let a = choose(s, n);
     let b = start_burst(a, burst);
     let c = pause(b, n);
-    head(c, n)
+    if burst <= c.life {
+        return live(c, n, c.life - burst);
+    }
+    begin_last(c)
 }
 
 // Fills the words with calls.
-pub(crate) fn fill(words: &mut [u64], from: Source, n: u64, burst: u64)
-    requires { ⌜ (n ≤ 16) × (0 < burst) ⌝ }
+pub(crate) fn fill(words: &mut [u64], from: Source, n: u64, burst: u64, span: u64)
+    requires { ⌜ (n ≤ 16) × (0 < burst) × (0 < span) ⌝ }
 {
     let mut s = from;
     let mut i = 0;
     while i < words.len() {
-        s = next(s, n, burst);
+        s = next(s, n, burst, span);
         words[i] = s.word;
         i += 1;
     }

@@ -1,5 +1,5 @@
-// Begins and sub-steps, each watched. A call is a word, as for `register::run::run`: above, 1 begins a write, 2 a read, 3 is a sub-step;
-// below, the number.
+// Begins, sub-steps and retirements, each watched. A call is a word, as for `register::run::run`: above, 1 begins a write, 2 a read, 3 is a
+// sub-step, 4 retires a reader; below, the number.
 use super::same::copy;
 use super::same::same;
 use super::same::same_state;
@@ -9,6 +9,7 @@ use super::text::print_with;
 use common::Answer;
 use common::State;
 use entries::kept::begin;
+use entries::kept::retire;
 use entries::kept::step;
 use register::calls::Called;
 use register::calls::begin_read;
@@ -26,7 +27,10 @@ fn make_call(word: u64, s: State, table: &mut [u64], log: &mut [u64]) -> Called 
         }
         return begin(s, table, log, number, 0);
     }
-    step(s, table, log, number)
+    if kind == 3 {
+        return step(s, table, log, number);
+    }
+    retire(s, table, log, number)
 }
 
 fn print_call(word: u64) {
@@ -35,8 +39,10 @@ fn print_call(word: u64) {
         print(b"; W");
     } else if kind == 2 {
         print(b"; R");
-    } else {
+    } else if kind == 3 {
         print(b"; S");
+    } else {
+        print(b"; U");
     }
     print_with(b" ", word % 4294967296);
 }

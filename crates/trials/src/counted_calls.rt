@@ -1,5 +1,6 @@
 // The counted register: set-up, its sessions, and lists of calls.
 use super::logs::try_log;
+use super::retired;
 use super::same::MARK;
 use super::same::marks;
 use super::scripts::try_calls;
@@ -64,7 +65,7 @@ fn try_used(used: usize, log: &[u64]) {
 }
 
 // The cells; the calls in the words, from a state on; the cells and the rows that they leave.
-fn try_from(s: State, words: &[u64; 64], table: &mut [u64], log: &mut [u64]) {
+fn try_from(s: State, words: &[u64], table: &mut [u64], log: &mut [u64]) {
     print_cells(table);
     let end = try_calls(words, s, table, log);
     print_cells(table);
@@ -73,7 +74,7 @@ fn try_from(s: State, words: &[u64; 64], table: &mut [u64], log: &mut [u64]) {
 }
 
 // The same for a register of n readers with start reading 7 and a fresh stamp.
-fn try_words(n: u32, fresh: u32, words: &[u64; 64], table: &mut [u64], log: &mut [u64]) {
+fn try_words(n: u32, fresh: u32, words: &[u64], table: &mut [u64], log: &mut [u64]) {
     print_with(b"counted from ", fresh as u64);
     print_with(b", readers ", n as u64);
     print_with(b", rows ", log.len() as u64);
@@ -81,15 +82,22 @@ fn try_words(n: u32, fresh: u32, words: &[u64; 64], table: &mut [u64], log: &mut
     try_from(o.state, words, table, log);
 }
 
-// The same with a table of so many cells and a log of so many rows, for the calls in the lines, at most 64.
+// The same with a table of so many cells and a log of so many rows.
+pub(crate) fn try_list(n: u32, cells: usize, fresh: u32, rows: usize, words: &[u64])
+    requires { ⌜ (cells ≤ 4097) × (rows ≤ 4097) ⌝ }
+{
+    let mut table = marks();
+    let mut log = marks();
+    try_words(n, fresh, words, &mut table[0..cells], &mut log[0..rows]);
+}
+
+// The same for the calls in the lines, at most 64.
 fn try_script(n: u32, cells: usize, fresh: u32, rows: usize, lines: &[u8])
     requires { ⌜ (cells ≤ 4097) × (rows ≤ 4097) ⌝ }
 {
     let mut words = [0u64; 64];
     read_calls(lines, 0, &mut words);
-    let mut table = marks();
-    let mut log = marks();
-    try_words(n, fresh, &words, &mut table[0..cells], &mut log[0..rows]);
+    try_list(n, cells, fresh, rows, &words);
 }
 
 // A write stopped half way, and two reads; the last stamp.
@@ -206,5 +214,6 @@ pub(crate) fn try_all() {
     try_open_and_idle();
     try_full();
     try_spent();
+    retired::try_counted();
     try_largest();
 }

@@ -1,4 +1,5 @@
 // Question 4 of the counted register: states of two readers after W 9, R 1, S 0 and S 1, in a log of 16 rows, with fresh stamp 5; or fresh.
+use super::heads::try_retired;
 use super::heads::try_rows;
 use super::heads::try_sizes;
 use super::heads::try_state;
@@ -153,4 +154,5 @@ pub(crate) fn try_all() {
     try_moved(s);
     try_stamps(s, first);
     try_others(s, first);
+    try_retired(s);
 }

@@ -17,7 +17,7 @@ fn try_one(word: u64, s: State, cells: usize, rows: usize)
     try_call(word, s, &mut table[0..cells], &mut log[0..rows]);
 }
 
-// W 5, R 2, S 0, S 1 and S 99, each with the same state.
+// W 5, R 2, S 0, S 1, S 99, U 1 and U 99, each with the same state.
 fn try_lent(s: State, cells: usize, rows: usize)
     requires { ⌜ (cells ≤ 4097) × (rows ≤ 4097) ⌝ }
 {
@@ -26,6 +26,8 @@ fn try_lent(s: State, cells: usize, rows: usize)
     try_one(0x3_0000_0000, s, cells, rows);
     try_one(0x3_0000_0001, s, cells, rows);
     try_one(0x3_0000_0063, s, cells, rows);
+    try_one(0x4_0000_0001, s, cells, rows);
+    try_one(0x4_0000_0063, s, cells, rows);
     print(b"\n");
 }
 
@@ -84,6 +86,57 @@ pub(crate) fn try_used(s: State, words: &[u8], used: usize) {
     let mut t = s;
     t.head = h;
     try_state(t);
+}
+
+// The state with reader i retired.
+pub(crate) fn with_retired(s: State, i: usize) -> State
+    requires { ⌜ (1 ≤ i) × (i ≤ 16) ⌝ }
+{
+    let mut r = s.readers[i - 1];
+    r.retired = true;
+    let mut t = s;
+    t.readers[i - 1] = r;
+    t
+}
+
+fn try_retired_reader(s: State, i: usize)
+    requires { ⌜ (1 ≤ i) × (i ≤ 16) ⌝ }
+{
+    print_changed(s.head, b"retired reader ", i as u64);
+    try_state(with_retired(s, i));
+}
+
+// The words moved by reader 1's read, which is open no longer.
+fn try_retired_read(s: State, moved: u8) {
+    print_changed(s.head, b"retired, read moved ", moved as u64);
+    let mut r = s.readers[0];
+    r.moved = moved;
+    let mut t = s;
+    t.readers[0] = r;
+    try_state(t);
+}
+
+// R 3, S 3 and U 3, with reader 3 retired, which there is not.
+fn try_absent(s: State) {
+    print_changed(s.head, b"retired, calls of reader ", 3);
+    try_one(0x2_0000_0003, s, 306, 16);
+    try_one(0x3_0000_0003, s, 306, 16);
+    try_one(0x4_0000_0003, s, 306, 16);
+    print(b"\n");
+}
+
+// A reader is retired: 1, whose read is open; 2; and 3, which there is not. Then words moved and rows used, with reader 1 retired.
+pub(crate) fn try_retired(s: State) {
+    try_retired_reader(s, 1);
+    try_retired_reader(s, 2);
+    try_retired_reader(s, 3);
+    try_absent(with_retired(s, 3));
+    let t = with_retired(s, 1);
+    try_retired_read(t, 255);
+    try_used(t, b"retired, rows used ", 13);
+    try_used(t, b"retired, rows used ", 14);
+    try_used(t, b"retired, rows used ", 15);
+    try_used(t, b"retired, rows used ", 16);
 }
 
 // n 1 to 16; this table as many cells as two readers need, or more; this log as long as recorded.

@@ -3,10 +3,11 @@
 mod text; // what is printed
 mod same; // words and states compared
 mod set_ups; // set-up: questions 1 to 3
-mod calls; // begins and sub-steps, each watched
+mod calls; // begins, sub-steps and retirements, each watched
 mod scripts; // lists of calls: questions 5 to 8
 mod heads; // question 4 of either register: sizes and rows
 mod range; // question 4: words moved and tickets
+mod retired; // retired readers of both registers: question 13, and what counts as open
 mod tickets; // the new ticket in states handed in
 mod counted_calls; // the counted register: set-up, its sessions, and lists of calls
 mod counted_range; // question 4 of the counted register: words moved and stamps

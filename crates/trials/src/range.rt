@@ -1,8 +1,10 @@
 // Question 4 of the first register: states of two readers after W 9, R 1, S 0 and S 1, in a log of 16 rows.
+use super::heads::try_retired;
 use super::heads::try_rows;
 use super::heads::try_sizes;
 use super::heads::try_state;
 use super::heads::try_used;
+use super::heads::with_retired;
 use super::same::marks;
 use super::text::print;
 use super::text::print_with;
@@ -167,4 +169,7 @@ pub(crate) fn try_all() {
     try_tickets(s);
     try_barred(s);
     try_count(s, 4294967295);
+    try_retired(s);
+    print(b"retired, ");
+    try_reader_stamp(with_retired(s, 1), 1, 64, 1);
 }

@@ -88,6 +88,7 @@ fn same_writer(a: Writer, b: Writer) -> bool {
 fn same_reader(a: Reader, b: Reader) -> bool {
     let stamp = equal(a.stamp, b.stamp);
     stamp
+        & (a.retired == b.retired)
         & (a.active == b.active)
         & (a.second == b.second)
         & (a.moved == b.moved)

@@ -1,6 +1,7 @@
 // Lists of calls: questions 5 to 8, and the order of the rows that the calls leave.
 use super::calls::try_call;
 use super::logs::try_log;
+use super::retired;
 use super::same::marks;
 use super::text::print;
 use super::text::print_with;
@@ -33,7 +34,7 @@ fn try_used(used: usize, log: &[u64]) {
 }
 
 // A register of n readers with start reading 7; the calls in the words; and the order of the rows that they leave.
-fn try_words(n: u32, words: &[u64; 64], table: &mut [u64], log: &mut [u64]) {
+fn try_words(n: u32, words: &[u64], table: &mut [u64], log: &mut [u64]) {
     print_with(b"readers ", n as u64);
     print_with(b", rows ", log.len() as u64);
     let o = set_up(n, 7, table, log);
@@ -42,15 +43,22 @@ fn try_words(n: u32, words: &[u64; 64], table: &mut [u64], log: &mut [u64]) {
     try_used(head.used, log);
 }
 
-// The same with a log of so many rows, for the calls in the lines, at most 64.
+// The same with a log of so many rows.
+pub(crate) fn try_list(n: u32, rows: usize, words: &[u64])
+    requires { ⌜ rows ≤ 4097 ⌝ }
+{
+    let mut table = marks();
+    let mut log = marks();
+    try_words(n, words, &mut table[0..306], &mut log[0..rows]);
+}
+
+// The same for the calls in the lines, at most 64.
 pub(crate) fn try_script(n: u32, rows: usize, lines: &[u8])
     requires { ⌜ rows ≤ 4097 ⌝ }
 {
     let mut words = [0u64; 64];
     read_calls(lines, 0, &mut words);
-    let mut table = marks();
-    let mut log = marks();
-    try_words(n, &words, &mut table[0..306], &mut log[0..rows]);
+    try_list(n, rows, &words);
 }
 
 // No such processor, also where the log is full.
@@ -83,4 +91,5 @@ pub(crate) fn try_all() {
     try_processors();
     try_open_and_idle();
     try_full();
+    retired::try_first();
 }

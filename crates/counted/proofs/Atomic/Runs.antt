@@ -44,6 +44,16 @@ module _ (n : ℕ) (pos : 1 ≤ n) (few : n ≤ 16) (len S : ℕ) (val : ℕ →
     write-steps = λ b s xs v m cells e z f. let r = w-step-sim n pos S val low b (s .0) (s .1) z v m cells e in ((r .0, s .1), r .1, rw (r .2) f);
     read-begins = λ b s i h e z. let r = r-begin-sim n few S val low b (s .0) (s .1) i h z e in ((r .0, r .1), r .2, r .3);
     read-steps = λ b s i v m cells h e z. let r = r-step-sim n few S val low b (s .0) (s .1) i h z v m cells e in ((r .0, r .1), r .2, r .3);
+    retires = λ b s p z. record {
+      inv = z .inv;
+      quiet = z .quiet;
+      fits = z .fits;
+      shows = z .shows;
+      stamp-is = z .stamp-is;
+      writer = z .writer;
+      readers = z .readers;
+      log-ok = z .log-ok;
+    };
   }
 
 -- The start counts as write 1.

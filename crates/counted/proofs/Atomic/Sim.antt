@@ -119,7 +119,7 @@ module _ (n S : ℕ) (val : ℕ → ℕ) where
     pub reader-sim : (F : ℕ) (x : ℕ → ℕ → ℕ) (r : Reader) (st : ℕ → ℕ) (op : Operation) (rows t : List ℕ) → st 0 ≡ b .stamp 0 → Inv n itself (with-x s F x) (upd me i r)
         → Shows t (s .w) x → ReadSim i op (r .ph)
         → LogRel n val rows (s .K) (s .D) F (s .wk) (upd me i r) (value-in (b .op 0))
-        → Sim (record { table = t; rows = rows; stamp = st; op = upd (b .op) (suc i) op }) (with-x s F x) (upd me i r)
+        → Sim (record { table = t; rows = rows; stamp = st; op = upd (b .op) (suc i) op; retired = b .retired }) (with-x s F x) (upd me i r)
     reader-sim F x r st op rows t es v sh rs lg = record {
       inv = v;
       quiet = z .quiet;

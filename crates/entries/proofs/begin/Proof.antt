@@ -12,17 +12,17 @@ use base.Logic.{SProp, ent, emp, via, fst∗, id⊢}
 use base.Fml.{GName, Lft, Share, flft, fobs, fbor, fat}
 use prog.Memory.{Memory}
 use prog.Routine.{Routine}
-use prog.Wp.{Heap, Calls, Loops, WpFn, Tables}
+use prog.Wp.{Heap, Calls, Loops, WpFn}
 use ghost.Atoms.{Atoms, sem}
 use contract.Lifetimes.{AllOutlive}
 use contract.Monad.{Fun, fact}
-use contract.Running.{givenOf, tables, tablesOf}
+use contract.Running.{givenOf}
 use types.Kit.{Given, ‵, raw, ⋆, some, later, _⊛_, _$_, _∵_, !, qed, by, move, keep, drop, use3, use1, split, pick, rewrite, fsplit, fsplit3, suffices, await}
 use types.Mut.{open-ref, close-ref}
 use types.Part.{agg, whole, sub, look-in, store-in}
 use types.Run.{addr, look, init, forget, stop, hop, fld, from, load, of-opd, and-then, no-more, land, assigns, returns, enter, alloc1, alloc0, params1, pass1, pass0, free1, free0}
 use types.SemTy.{Body}
-use sound.WpLaws.{FmC, fmOf, WpFn-mono}
+use sound.WpLaws.{FmC}
 use denote.RattleType.{owns}
 use denote.Laws.{Is, shows}
 use denote.Memory.{mem}
@@ -37,10 +37,9 @@ use denote.Struct.Laws as SL
 use denote.Triple.Call.{calls-at}
 use denote.Triple.Clauses.{Lasts, lasts}
 use denote.Triple.Entry.{onEntry}
-use denote.Triple.Spec.{Meets, tripleOf}
+use denote.Triple.Spec.{tripleOf}
 use denote.Triple.Statement.{Contract, Triple}
-use denote.Triple.Table.{entered, cited}
-use denote.Triple.Walked.{says, Stays, stay-ref, stay-none, walkOf, AllGo, goes-none, goes-ref, gave-slice, goes-gave-slice, Walks, ends-at, walked, walk-meets}
+use denote.Triple.Walked.{says, Stays, stay-ref, stay-none, walkOf, AllGo, goes-none, goes-ref, gave-slice, goes-gave-slice, Walks, ends-at, walked}
 use Rattle.register.proofs.CallLaws.{with-reply}
 use Rattle.common.specs.declared.State.{State}
 use Rattle.common.proofs.State as T
@@ -53,7 +52,7 @@ use Rattle.entries.proofs.by_value.begin as core
 use Rattle.entries.proofs.by_value.begin.Symbol as core-def
 use Rattle.entries.proofs.by_value.begin.Symbol.{name as #entries·by-value·begin}
 use Rattle.entries.proofs.by_value.begin.Met as core-thm
-use Rattle.entries.proofs.Lent.{mach, said, slice, Tokens, IsAnswer, answer-in, state-in, state-typed, answer-typed, called-typed, takes, puts, ended, number, asks-value, ends-lent}
+use Rattle.entries.proofs.Lent.{mach, said, slice, Tokens, IsAnswer, answer-in, state-in, state-typed, answer-typed, called-typed, takes, puts, ended, number, asks-value, ends-lent, by-walk}
 use Rattle.entries.proofs.begin.Key.{name as #entries·begin}
 use Rattle.entries.proofs.begin as begin
 use Rattle.entries.proofs.begin.Statement as stated
@@ -126,8 +125,8 @@ module _ {M : Type 1} (𝓤 : URA M) (H : Heap 𝓤) (A : Atoms 𝓤) (W : Given
         keep ! (0 ∷ 1 ∷ 2 ∷ 3 ∷ 4 ∷ 5 ∷ []) $ by ! (exits r (zs .1 .0) (zs .1 .1 .0) e e₁ e₂ (answer-in r w is-r))))))))))))))))))))
 
 module _ {M : Type 1} (𝓤 : URA M) (H : Heap 𝓤) (A : Atoms 𝓤) (W : Given 𝓤 H A) (at-mem : Memory → SProp 𝓤) (run : Routine → Fun 𝓤) where
-  begin-walks : (C : Calls 𝓤 H) (Λ : Loops 𝓤 H) → FmC 𝓤 H (W .laws) C → Triple 𝓤 (C #entries·by-value·begin) (Core 𝓤 H A at-mem run) → Walks 𝓤 H A begin.ended stayed (WpFn 𝓤 H C Λ code.function) (begin.clauses 𝓤 H A at-mem run)
-  begin-walks C Λ fm known = walked 𝓤 H A begin.ended stayed (begin.clauses 𝓤 H A at-mem run) (WpFn 𝓤 H C Λ code.function)
+  walks : (C : Calls 𝓤 H) (Λ : Loops 𝓤 H) → FmC 𝓤 H (W .laws) C → Triple 𝓤 (C #entries·by-value·begin) (Core 𝓤 H A at-mem run) → Walks 𝓤 H A begin.ended stayed (WpFn 𝓤 H C Λ code.function) (begin.clauses 𝓤 H A at-mem run)
+  walks C Λ fm known = walked 𝓤 H A begin.ended stayed (begin.clauses 𝓤 H A at-mem run) (WpFn 𝓤 H C Λ code.function)
       (λ κs. (ptr-vals, (slice-vals, (slice-vals, (uint-vals w32, (uint-vals w32, tt)))))) (λ κs. (mut-tells (named 0) (κs .0) T.the-row, (mut-slice-tells (named 1) (κs .1 .0) u64, (mut-slice-tells (named 2) (κs .1 .1 .0) u64, (uint-tells w32, (uint-tells w32, tt))))))
       (λ κs qs bounds a _ are. via 𝓤 _ (fst∗ 𝓤 _ (emp 𝓤)) (walk 𝓤 H A W at-mem run (κs .0) (κs .1 .0) (κs .1 .1 .0) (qs .0) (qs .1 .0) (qs .1 .1 .0) bounds (a .0 .ptr .0) (a .0 .ptr .1) (a .0 .name) (a .0 .now)
       (a .1 .0) (a .1 .1 .0) (a .1 .1 .1 .0) (a .1 .1 .1 .1 .0) (are .1 .0 .0 .1) (are .1 .1 .0 .0 .1) (are .1 .1 .1 .0 .1) (are .1 .1 .1 .1 .0 .1) C Λ fm known))
@@ -135,13 +134,7 @@ module _ {M : Type 1} (𝓤 : URA M) (H : Heap 𝓤) (A : Atoms 𝓤) (W : Given
   goes : AllGo 𝓤 H A W 3 (begin.signature .params) (begin.ended .kept) stayed
   goes = (goes-ref 𝓤 H A W 3 0 tt (plain (λ _. T.the-row)), (goes-gave-slice 𝓤 H A W 3 1 tt (plain (λ _. u64)), (goes-gave-slice 𝓤 H A W 3 2 tt (plain (λ _. u64)), (goes-none 𝓤 H A W 3 (λ _. u32) yes (λ κs x f. refl), (goes-none 𝓤 H A W 3 (λ _. u32) yes (λ κs x f. refl), tt)))))
 
-  begin-meets : (𝓣 : Tables 𝓤 H) → Triple 𝓤 (𝓣 .C #entries·by-value·begin) (Core 𝓤 H A at-mem run) → Meets 𝓤 H A begin.signature (WpFn 𝓤 H (𝓣 .C) (𝓣 .Λ) code.function) (begin.spec 𝓤 H A at-mem run)
-  begin-meets 𝓣 known = walk-meets 𝓤 H A begin.ended stayed W goes (begin.clauses 𝓤 H A at-mem run) (WpFn 𝓤 H (𝓣 .C) (𝓣 .Λ) code.function) (WpFn-mono 𝓤 H (W .laws) 𝓣 code.function) (begin-walks (𝓣 .C) (𝓣 .Λ) (fmOf 𝓤 H (W .laws) 𝓣) known)
-
 pub begin-spec : {M : Type 1} → stated.statement M
-unfolding code.routine tablesOf
-begin-spec 𝓤 H 𝓜 𝓖 𝓡 =
-    entered 𝓤 H (tripleOf 𝓤 H (𝓖 .A) begin.signature (begin.spec 𝓤 H (𝓖 .A) (𝓜 .mem) (𝓡 .run)))
-    (tables 𝓤 H 𝓜 𝓡 code.env .C) (tables 𝓤 H 𝓜 𝓡 code.env .Λ) #entries·begin code.function (code.unfolded 𝓤 H 𝓜 𝓡)
-    (begin-meets 𝓤 H (𝓖 .A) (givenOf 𝓤 H 𝓜 𝓖) (𝓜 .mem) (𝓡 .run) (tablesOf 𝓤 H 𝓜 (tables 𝓤 H 𝓜 𝓡 code.env))
-    (cited 𝓤 H (Core 𝓤 H (𝓖 .A) (𝓜 .mem) (𝓡 .run)) 𝓜 𝓡 code.env #entries·by-value·begin core-def.routine code.calls-entries·by-value·begin (core-thm.met 𝓤 H 𝓜 𝓖 𝓡)))
+unfolding code.routine
+begin-spec 𝓤 H 𝓜 𝓖 𝓡 = by-walk 𝓤 H 𝓜 𝓖 𝓡 code.env #entries·begin code.function #entries·by-value·begin core-def.routine (code.unfolded 𝓤 H 𝓜 𝓡) code.calls-entries·by-value·begin (Core 𝓤 H (𝓖 .A) (𝓜 .mem) (𝓡 .run)) (core-thm.met 𝓤 H 𝓜 𝓖 𝓡)
+    begin.ended stayed (goes 𝓤 H (𝓖 .A) (givenOf 𝓤 H 𝓜 𝓖) (𝓜 .mem) (𝓡 .run)) (begin.clauses 𝓤 H (𝓖 .A) (𝓜 .mem) (𝓡 .run)) (walks 𝓤 H (𝓖 .A) (givenOf 𝓤 H 𝓜 𝓖) (𝓜 .mem) (𝓡 .run))

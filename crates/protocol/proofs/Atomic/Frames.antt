@@ -45,7 +45,7 @@ module _ (n : ℕ) (c val : ℕ → ℕ) where
     pub local-sim : (op : Operation) (ph : Phase) (rows : List ℕ) (st : ℕ → Stamp) → ((j : ℕ) → st j ≡ b .stamp j)
         → Inv n c s (upd me i (to (me i) ph)) → ReadSim n c val i op ph
         → LogRel n val rows (s .K) (s .D) (s .F) (s .wk) (upd me i (to (me i) ph)) (value-in (b .op 0))
-        → Sim n c val (record { table = b .table; rows = rows; stamp = st; op = upd (b .op) (suc i) op }) s (upd me i (to (me i) ph))
+        → Sim n c val (record { table = b .table; rows = rows; stamp = st; op = upd (b .op) (suc i) op; retired = b .retired }) s (upd me i (to (me i) ph))
     local-sim op ph rows st es v r lg = record {
       inv = v;
       size = z .size;
@@ -65,7 +65,7 @@ module _ (n : ℕ) (c val : ℕ → ℕ) where
         Inv n c s′ (upd me i r) → ReadSim n c val i op (r .ph) → x ≡ back-of c (r .o) (r .a)
         → st 0 ≡ b .stamp 0 → st (suc i) ≡ stamp-of c (r .o) → ((j : ℕ) → j ≢ i → st (suc j) ≡ b .stamp (suc j))
         → LogRel n val rows (s .K) (s .D) F (s .wk) (upd me i r) (value-in (b .op 0))
-        → Sim n c val (record { table = store n (b .table) (suc i) 0 x; rows = rows; stamp = st; op = upd (b .op) (suc i) op }) s′ (upd me i r)
+        → Sim n c val (record { table = store n (b .table) (suc i) 0 x; rows = rows; stamp = st; op = upd (b .op) (suc i) op; retired = b .retired }) s′ (upd me i r)
     back-sim hi low r F op x st rows v rs ex e0 e1 e2 lg = record {
       inv = v;
       size = size-store (places n) (suc i) 0 (b .table) x (z .size);

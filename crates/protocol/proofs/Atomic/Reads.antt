@@ -46,6 +46,7 @@ module _ (n : ℕ) (few : n ≤ 16) (c val : ℕ → ℕ) (low : Low c val) (b :
     rows = b .rows ++ (rowOf 3 (suc i) 0 ∷ []);
     stamp = b .stamp;
     op = upd (b .op) (suc i) (open-with 0 0 []);
+    retired = b .retired;
   }
 
   pub r-begin-sim : b .op (suc i) ≡ idle → Go n c val begun-read s

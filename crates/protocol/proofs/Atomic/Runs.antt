@@ -52,6 +52,18 @@ module _ (n : ℕ) (pos : 1 ≤ n) (few : n ≤ 16) (len : ℕ) (given : ℕ →
       write-steps = steps-write;
       read-begins = λ b s i h e z. let r = r-begin-sim n few c val low b (s .0) (s .1) i h z e in ((r .0, r .1), r .2, r .3);
       read-steps = λ b s i v m cells h e z. let r = r-step-sim n few c val low b (s .0) (s .1) i h z v m cells e in ((r .0, r .1), r .2, r .3);
+      retires = λ b s p z. record {
+        inv = z .inv;
+        size = z .size;
+        to-reader = z .to-reader;
+        to-writer = z .to-writer;
+        between = z .between;
+        own-w = z .own-w;
+        own-r = z .own-r;
+        readers = z .readers;
+        writer = z .writer;
+        log-ok = z .log-ok;
+      };
     }
 
 -- The start counts as write 1, with ticket 0 behind ticket 1.

@@ -2,19 +2,18 @@
 use Prim.Native.Nat.{ℕ, _+_, _*_, _^_, _≤_, _<_}
 use mathlib.Core.Path.{_≡_}
 use mathlib.Core.Logic.{_≢_}
-use mathlib.Core.Bool.{_&&_}
 use mathlib.Core.List.{List, [], _∷_}
 use native.Mathlib.Omega.{arith}
 use lib.ListN.{length, length-append}
-use lib.Dec.{eqb, leb}
-use borrow.Author.Tests.{leb-true}
+use lib.Dec.{eqb}
 use Rattle.words.specs.declared.cell.Cell.{Cell}
 use Rattle.words.specs.Choice.{pick}
 use Rattle.words.specs.Update.{upd}
-use Rattle.words.proofs.Laws.Choice.{pick-ind, lt-ind, le-ind, eq-ind, left}
+use Rattle.words.proofs.Laws.Choice.{pick-ind, lt-ind, le-ind, eq-ind}
 use Rattle.words.proofs.Laws.Update.{upd-same, upd-other}
 use Rattle.common.specs.Book.{idle, open-with, isOpen, begun, begins, movesWrite, movesRead, told}
-use Rattle.common.specs.Calls.{Call, write, read, step, LowCall, LowCalls}
+use Rattle.common.specs.Calls.{Call, write, read, step, retire, LowCall, LowCalls}
+use Rattle.common.proofs.Asked.{of-processor}
 use Rattle.common.proofs.Follows.{All, gains, gains-all}
 use Rattle.protocol.specs.Reference.{Operation, Model, Turn, ticketAfter, writeTurn, book, Told}
 use Rattle.protocol.proofs.NewTicket.{after-low}
@@ -68,10 +67,9 @@ module _ (n : ℕ) (few : n ≤ 16) where
     unfolding told
     lens-told (write v) low = lens-begins 0 1 v (rw (upd-same (b .op) 0) (omega arith, omega arith, low))
     lens-told (read p) _ =
-        pick-ind Fine (leb 1 p && leb p n) _ _
-        (λ e. lens-begins p 3 0 (others p _ (omega (arith, leb-true 1 p (left (leb 1 p) (leb p n) e))))) (λ _. h)
+        of-processor Fine n b h h 1 p _ (λ p1 _ _. lens-begins p 3 0 (others p _ (omega arith)))
     lens-told (step p) _ =
-        pick-ind Fine (leb 0 p && leb p n) _ _ (λ _. eq-ind Fine p 0 _ _ (λ _. at-writer (b .op 0) h) (λ ne. at-reader ne (b .op p))) (λ _. h)
+        of-processor Fine n b h h 0 p _ (λ _ _ _. eq-ind Fine p 0 _ _ (λ _. at-writer (b .op 0) h) (λ ne. at-reader ne (b .op p)))
       where
         at-writer : (q : Operation) → Lens q → Fine (movesWrite book n b q)
         at-writer idle g = h
@@ -80,6 +78,7 @@ module _ (n : ℕ) (few : n ≤ 16) where
         at-reader : p ≢ 0 → (q : Operation) → Fine (movesRead book n b p q)
         at-reader ne idle = h
         at-reader ne (open-with v m cells) = others p _ ne
+    lens-told (retire p) _ = of-processor Fine n b h h 1 p _ (λ _ _ _. h)
 
   step-small : (b : Model) (v m : ℕ) (cells : List Cell) → Lens (open-with v m cells) → All Small (atStep n b v m cells)
   step-small b v m cells h =

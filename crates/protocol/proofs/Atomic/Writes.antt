@@ -20,7 +20,7 @@ use Rattle.numbered.proofs.Log.{log-w-begins, log-look, log-ticket, log-w-ends,
 use Rattle.common.specs.Book.{idle, open-with, entered}
 use Rattle.common.proofs.Places.{view-same, view-other, size-store}
 use Rattle.protocol.specs.Table.{view, store, plain}
-use Rattle.protocol.specs.Reference.{Model, Turn, excludedTickets, ticketAfter, newStamp, writeTurn}
+use Rattle.protocol.specs.Reference.{Model, cellRead, Turn, excludedTickets, ticketAfter, newStamp, writeTurn}
 use Rattle.protocol.proofs.NewTicket.{newTicket-new}
 use Rattle.protocol.proofs.Table.{places}
 use Rattle.protocol.proofs.Atomic.Cells.{Low, stamp-of, back-of, cell-of, stamp-cur, stamp-prev, fits-cell}
@@ -64,7 +64,13 @@ module _ (n : ℕ) (pos : 1 ≤ n) (c val : ℕ → ℕ) (low : Low c val) where
   module _ (b : Model) (s : St) (me : ℕ → Reader) where
     -- A write begins.
     abbrev pub begun-write : ℕ → Model
-    begun-write v = record { table = b .table; rows = b .rows ++ (rowOf 1 0 v ∷ []); stamp = b .stamp; op = upd (b .op) 0 (open-with v 0 []) }
+    begun-write v = record {
+      table = b .table;
+      rows = b .rows ++ (rowOf 1 0 v ∷ []);
+      stamp = b .stamp;
+      op = upd (b .op) 0 (open-with v 0 []);
+      retired = b .retired;
+    }
 
     pub w-begin-sim : (v : ℕ) → v < 2 ^ 32 → b .op 0 ≡ idle → Sim n c val b s me → Sim n c val (begun-write v) (w-begin n c s) me
     w-begin-sim v vl e z =
@@ -95,7 +101,7 @@ module _ (n : ℕ) (pos : 1 ≤ n) (c val : ℕ → ℕ) (low : Low c val) where
     stored = store n (b .table) 0 (m - n + 1) (plain v new)
 
     abbrev seen : List Cell
-    seen = cells ++ (view n (b .table) (m + 1) 0 ∷ [])
+    seen = cells ++ (cellRead n (b .table) m ∷ [])
 
     abbrev reads : Turn
     reads = record { op = open-with v (m + 1) seen; stamp = b .stamp 0; table = b .table; value = 0 }
@@ -112,7 +118,7 @@ module _ (n : ℕ) (pos : 1 ≤ n) (c val : ℕ → ℕ) (low : Low c val) where
         → Sim n c val (entered b 0 2 (reads b v m cells)) (w-read n c s (excludedTickets (stamp-of c (s .D)) (seen b v m cells))) me
     w-look-sim s h z = go (rw e at (z .writer))
       where
-        cell-is : view n (b .table) (m + 1) 0 ≡ back-of c (me m .o) (me m .a)
+        cell-is : cellRead n (b .table) m ≡ back-of c (me m .o) (me m .a)
         cell-is = ap (λ (k : ℕ). view n (b .table) k 0) (add-one m) ∙ z .to-writer m h
 
         go : Reading n c val (s .D) (s .wk) (s .B) m cells ⊎ ((n < m) × Writing n c val (s .K) (s .D) (s .wk) (s .w) v m cells)

@@ -12,16 +12,16 @@ use base.Logic.{SProp, ent, emp, via, fst∗, id⊢}
 use base.Fml.{GName, Lft, Share, flft, flent, fat}
 use prog.Memory.{Memory}
 use prog.Routine.{Routine}
-use prog.Wp.{Heap, Calls, Loops, WpFn, Tables}
+use prog.Wp.{Heap, Calls, Loops, WpFn}
 use ghost.Atoms.{Atoms, sem}
 use contract.Monad.{Fun, fact}
-use contract.Running.{givenOf, tables, tablesOf}
+use contract.Running.{givenOf}
 use types.Kit.{Given, ‵, raw, ⋆, some, later, _⊛_, _$_, _∵_, !, qed, by, move, keep, drop, use3, use1, split, join, pick, rewrite, fsplit, suffices, await}
 use types.Part.{agg, whole, sub, look-in}
 use types.Run.{addr, look, init, forget, stop, hop, fld, from, load, of-opd, and-then, no-more, land, assigns, returns, enter, alloc1, alloc0, params1, pass1, pass0, free1, free0}
 use types.SemTy.{Body}
 use types.Tokens.{lft-new, lft-end}
-use sound.WpLaws.{FmC, fmOf, WpFn-mono}
+use sound.WpLaws.{FmC}
 use denote.RattleType.{owns}
 use denote.Laws.{Is, shows}
 use denote.Lend.{lends-ref, ref-back}
@@ -38,10 +38,9 @@ use denote.Struct.Laws as SL
 use denote.Triple.Call.{calls-at}
 use denote.Triple.Clauses.{Lasts, lasts}
 use denote.Triple.Entry.{onEntry}
-use denote.Triple.Spec.{Meets, tripleOf}
+use denote.Triple.Spec.{tripleOf}
 use denote.Triple.Statement.{Contract, Triple}
-use denote.Triple.Table.{entered, cited}
-use denote.Triple.Walked.{says, Stays, stay-none, walkOf, AllGo, goes-none, gave-slice, goes-gave-slice, Walks, ends-at, walked, walk-meets}
+use denote.Triple.Walked.{says, Stays, stay-none, walkOf, AllGo, goes-none, gave-slice, goes-gave-slice, Walks, ends-at, walked}
 use Rattle.register.proofs.CallLaws.{with-reply}
 use Rattle.common.specs.Answers.{reply}
 use Rattle.common.specs.declared.Answer.{Answer}
@@ -52,7 +51,7 @@ use Rattle.common.proofs.State as T
 use Rattle.common.proofs.State.Laws as T′
 use Rattle.register.specs.declared.calls.Called.{Called}
 use Rattle.entries.specs.Contract.{beginOf, left}
-use Rattle.entries.proofs.Lent.{mach, told, slice, Tokens, IsState, IsAnswer, answer-is, called-is, state-typed, answer-typed, called-typed, takes, puts, ended, number, asks-lent, ends-value}
+use Rattle.entries.proofs.Lent.{mach, told, slice, Tokens, IsState, IsAnswer, answer-is, called-is, state-typed, answer-typed, called-typed, takes, puts, ended, number, asks-lent, ends-value, by-walk}
 use Rattle.entries.proofs.begin as entry
 use Rattle.entries.proofs.begin.Symbol as entry-def
 use Rattle.entries.proofs.begin.Symbol.{name as #entries·begin}
@@ -142,21 +141,15 @@ module _ {M : Type 1} (𝓤 : URA M) (H : Heap 𝓤) (A : Atoms 𝓤) (W : Given
         keep ! (0 ∷ 1 ∷ 2 ∷ []) $ by ! (exits c (zs .0) (zs .1 .0) (zs .1 .1 .0) (e .0) e₁ e₂ (answer-is c w is-c) is-s)))))))))))))))))))))))
 
 module _ {M : Type 1} (𝓤 : URA M) (H : Heap 𝓤) (A : Atoms 𝓤) (W : Given 𝓤 H A) (at-mem : Memory → SProp 𝓤) (run : Routine → Fun 𝓤) where
-  begin-walks : (C : Calls 𝓤 H) (Λ : Loops 𝓤 H) → FmC 𝓤 H (W .laws) C → Triple 𝓤 (C #entries·begin) (Entry 𝓤 H A at-mem run) → Walks 𝓤 H A kept.ended stayed (WpFn 𝓤 H C Λ code.function) (kept.clauses 𝓤 H A at-mem run)
-  begin-walks C Λ fm known = walked 𝓤 H A kept.ended stayed (kept.clauses 𝓤 H A at-mem run) (WpFn 𝓤 H C Λ code.function)
+  walks : (C : Calls 𝓤 H) (Λ : Loops 𝓤 H) → FmC 𝓤 H (W .laws) C → Triple 𝓤 (C #entries·begin) (Entry 𝓤 H A at-mem run) → Walks 𝓤 H A kept.ended stayed (WpFn 𝓤 H C Λ code.function) (kept.clauses 𝓤 H A at-mem run)
+  walks C Λ fm known = walked 𝓤 H A kept.ended stayed (kept.clauses 𝓤 H A at-mem run) (WpFn 𝓤 H C Λ code.function)
       (λ κs. (SL.vals T.the-type T′.the-laws, (slice-vals, (slice-vals, (uint-vals w32, (uint-vals w32, tt)))))) (λ κs. (SL.tells T.the-type T′.the-laws, (mut-slice-tells (named 0) (κs .0) u64, (mut-slice-tells (named 1) (κs .1 .0) u64, (uint-tells w32, (uint-tells w32, tt))))))
       (λ κs qs bounds a _ are. via 𝓤 _ (fst∗ 𝓤 _ (emp 𝓤)) (walk 𝓤 H A W at-mem run (κs .0) (κs .1 .0) (qs .0) (qs .1 .0) (a .0) (a .1 .0) (a .1 .1 .0) (a .1 .1 .1 .0) (a .1 .1 .1 .1 .0) (are .0) (are .1 .0 .0 .1) (are .1 .1 .0 .0 .1) (are .1 .1 .1 .0 .1) (are .1 .1 .1 .1 .0 .1) C Λ fm known))
 
   goes : AllGo 𝓤 H A W 2 (kept.signature .params) (kept.ended .kept) stayed
   goes = (goes-none 𝓤 H A W 2 (λ _. T.the-row) yes (λ κs x f. refl), (goes-gave-slice 𝓤 H A W 2 0 tt (plain (λ _. u64)), (goes-gave-slice 𝓤 H A W 2 1 tt (plain (λ _. u64)), (goes-none 𝓤 H A W 2 (λ _. u32) yes (λ κs x f. refl), (goes-none 𝓤 H A W 2 (λ _. u32) yes (λ κs x f. refl), tt)))))
 
-  begin-meets : (𝓣 : Tables 𝓤 H) → Triple 𝓤 (𝓣 .C #entries·begin) (Entry 𝓤 H A at-mem run) → Meets 𝓤 H A kept.signature (WpFn 𝓤 H (𝓣 .C) (𝓣 .Λ) code.function) (kept.spec 𝓤 H A at-mem run)
-  begin-meets 𝓣 known = walk-meets 𝓤 H A kept.ended stayed W goes (kept.clauses 𝓤 H A at-mem run) (WpFn 𝓤 H (𝓣 .C) (𝓣 .Λ) code.function) (WpFn-mono 𝓤 H (W .laws) 𝓣 code.function) (begin-walks (𝓣 .C) (𝓣 .Λ) (fmOf 𝓤 H (W .laws) 𝓣) known)
-
 pub begin-spec : {M : Type 1} → stated.statement M
-unfolding code.routine tablesOf
-begin-spec 𝓤 H 𝓜 𝓖 𝓡 =
-    entered 𝓤 H (tripleOf 𝓤 H (𝓖 .A) kept.signature (kept.spec 𝓤 H (𝓖 .A) (𝓜 .mem) (𝓡 .run)))
-    (tables 𝓤 H 𝓜 𝓡 code.env .C) (tables 𝓤 H 𝓜 𝓡 code.env .Λ) #entries·kept·begin code.function (code.unfolded 𝓤 H 𝓜 𝓡)
-    (begin-meets 𝓤 H (𝓖 .A) (givenOf 𝓤 H 𝓜 𝓖) (𝓜 .mem) (𝓡 .run) (tablesOf 𝓤 H 𝓜 (tables 𝓤 H 𝓜 𝓡 code.env))
-    (cited 𝓤 H (Entry 𝓤 H (𝓖 .A) (𝓜 .mem) (𝓡 .run)) 𝓜 𝓡 code.env #entries·begin entry-def.routine code.calls-entries·begin (entry-thm.met 𝓤 H 𝓜 𝓖 𝓡)))
+unfolding code.routine
+begin-spec 𝓤 H 𝓜 𝓖 𝓡 = by-walk 𝓤 H 𝓜 𝓖 𝓡 code.env #entries·kept·begin code.function #entries·begin entry-def.routine (code.unfolded 𝓤 H 𝓜 𝓡) code.calls-entries·begin (Entry 𝓤 H (𝓖 .A) (𝓜 .mem) (𝓡 .run)) (entry-thm.met 𝓤 H 𝓜 𝓖 𝓡)
+    kept.ended stayed (goes 𝓤 H (𝓖 .A) (givenOf 𝓤 H 𝓜 𝓖) (𝓜 .mem) (𝓡 .run)) (kept.clauses 𝓤 H (𝓖 .A) (𝓜 .mem) (𝓡 .run)) (walks 𝓤 H (𝓖 .A) (givenOf 𝓤 H 𝓜 𝓖) (𝓜 .mem) (𝓡 .run))

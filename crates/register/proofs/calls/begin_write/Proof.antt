@@ -1,4 +1,4 @@
-use Rattle.register.proofs.CallLaws.{with-reply, refusal, room-told, begin-row, write-range, write-busy, write-full, write-spent, write-begins}
+use Rattle.register.proofs.CallLaws.{with-reply, gives, room-told, begin-row, write-range, write-busy, write-full, write-spent, write-begins}
 use Rattle.common.proofs.Range.{test-range}
 use denote.Ref.{now}
 use mathlib.Core.Path.{sym, _∙_}
@@ -12,7 +12,7 @@ returns c =
     let a = c .before .before .before .before .before .before .before .args in
     let e = sym (c .before .before .before .before .state-ok .ensures) ∙ c .before .before .before .if1 .taken in
     with-reply
-    (refusal (c .refuse .result) _ (a .s) _ _ (c .refuse .ensures .0) (c .refuse .ensures .1)
+    (gives (c .refuse .result) _ (a .s) _ _ (c .refuse .ensures .0) (c .refuse .ensures .1)
     ∙ write-busy _ (a .s) (now (a .table)) (now (a .log)) (a .value) e (c .before .if2 .taken))
 
 open-in-requires : tie.Need-open-in-requires
@@ -49,7 +49,7 @@ returns-3 c =
     let e = sym (c .before .before .before .before .before .before .before .before .before .before .state-ok .ensures) ∙ c .before .before .before .before .before .before .before .before .before .if1 .taken in
     let h = room-told (a .s) _ _ _ (c .before .before .before .before .before .open-in .ensures) (c .before .before .before .before .has-room .ensures) (c .before .before .before .if3 .taken) in
     with-reply
-    (refusal (c .refuse2 .result) _ (a .s) _ _ (c .refuse2 .ensures .0) (c .refuse2 .ensures .1)
+    (gives (c .refuse2 .result) _ (a .s) _ _ (c .refuse2 .ensures .0) (c .refuse2 .ensures .1)
     ∙ write-spent _ (a .s) (now (a .table)) (now (a .log)) (a .value) e (c .before .before .before .before .before .before .before .if2 .left) h (sym (c .before .before .may-write .ensures) ∙ c .before .if4 .left))
 
 returns-4 : tie.Need-returns-4
@@ -58,14 +58,14 @@ returns-4 c =
     let e = sym (c .before .before .before .before .before .before .before .before .state-ok .ensures) ∙ c .before .before .before .before .before .before .before .if1 .taken in
     let h = room-told (a .s) _ _ _ (c .before .before .before .open-in .ensures) (c .before .before .has-room .ensures) (c .before .if3 .left) in
     with-reply
-    (refusal (c .refuse3 .result) _ (a .s) _ _ (c .refuse3 .ensures .0) (c .refuse3 .ensures .1)
+    (gives (c .refuse3 .result) _ (a .s) _ _ (c .refuse3 .ensures .0) (c .refuse3 .ensures .1)
     ∙ write-full _ (a .s) (now (a .table)) (now (a .log)) (a .value) e (c .before .before .before .before .before .if2 .left) h)
 
 returns-5 : tie.Need-returns-5
 returns-5 c =
     let a = c .before .before .before .before .before .args in
     with-reply
-    (refusal (c .refuse4 .result) _ (a .s) _ _ (c .refuse4 .ensures .0) (c .refuse4 .ensures .1)
+    (gives (c .refuse4 .result) _ (a .s) _ _ (c .refuse4 .ensures .0) (c .refuse4 .ensures .1)
     ∙ write-range _ (a .s) (now (a .table)) (now (a .log)) (a .value) (sym (c .before .before .state-ok .ensures) ∙ c .before .if1 .left))
 
 pub begin-write-spec : {M : Type 1} → statement M

@@ -1,5 +1,6 @@
 use Rattle.register.proofs.KindLaws.{read-low}
 use Rattle.register.proofs.CallLaws.{table-in, read-row, read-goes, read-ends}
+use Rattle.common.proofs.Range.{reader-ok}
 use Prim.Native.Nat.{_-_}
 use denote.Ref.{now}
 use native.Mathlib.Omega.{arith}
@@ -15,13 +16,13 @@ read-step-requires : tie.Need-read-step-requires
 read-step-requires c κs =
     let a = c .before .before .before .before .before .args in
     let p = c .before .before .before .before .before .pre in
-    (table-in _ (a .t1) _ _ (p .0), p .1, p .2, p .0 .readers-ok (a .p - 1) (omega (arith, p .1, p .2)), p .3)
+    (table-in _ (a .t1) _ _ (p .0), p .1, p .2, reader-ok (a .t1) (a .p) (p .1) (p .3) (p .2) _ _ _ (p .0), p .4)
 
 add-row-of : tie.Need-add-row-of
 add-row-of c =
     let a = c .before .before .before .before .before .before .before .before .before .args in
     let p = c .before .before .before .before .before .before .before .before .before .pre in
-    omega (arith, read-low (a .t1 .head .n) (a .p) (readerAt (a .t1) (a .p - 1)) (p .1) (p .2) (p .3) (p .0 .head-ok .n-high) (a .t1 .head .counted) (p .0 .readers-ok (a .p - 1) (omega (arith, p .1, p .2))))
+    omega (arith, read-low (a .t1 .head .n) (a .p) (readerAt (a .t1) (a .p - 1)) (p .1) (p .2) (p .4) (p .0 .head-ok .n-high) (a .t1 .head .counted) (reader-ok (a .t1) (a .p) (p .1) (p .3) (p .2) _ _ _ (p .0)))
 
 element-set-from-next : tie.Need-element-set-from-next
 element-set-from-next c = omega (arith, c .before .before .before .before .before .before .before .before .before .pre .1, c .before .before .before .before .before .before .before .before .before .pre .2, c .before .before .before .before .before .before .before .before .before .pre .0 .head-ok .n-high)
@@ -40,7 +41,7 @@ mul-log c = omega (arith, c .before .before .before .before .before .before .bef
 slice-write-log : tie.Need-slice-write-log
 slice-write-log c =
     let p = c .before .before .before .before .before .before .before .before .before .before .before .before .pre in
-    read-row _ (c .before .before .before .before .before .before .before .before .before .before .before .before .args .t1) _ _ (p .0) (c .before .before .before .before .before .before .before .before .before .before .before .before .args .p) (p .1) (p .2) (p .3)
+    read-row _ (c .before .before .before .before .before .before .before .before .before .before .before .before .args .t1) _ _ (p .0) (c .before .before .before .before .before .before .before .before .before .before .before .before .args .p) (p .1) (p .2) (p .3) (p .4)
 
 add-more : tie.Need-add-more
 add-more c = omega (arith, c .before .before .before .before .before .before .before .before .before .before .before .before .pre .0 .head-ok .room, c .before .before .before .before .before .before .before .before .before .before .before .before .pre .0 .head-ok .rows-high)

@@ -1,5 +1,5 @@
 use Rattle.words.proofs.Laws.Counting.{one-low, count-low}
-use Rattle.common.specs.State.{readerAt}
+use Rattle.common.specs.State.{readerAt, asCounted}
 use Prim.Native.Nat.{ℕ}
 use native.Mathlib.Omega.{arith}
 use borrow.Author.Needs.{needs}
@@ -9,7 +9,7 @@ use Rattle.register.proofs.range.open_in.Tie as tie
 add-result : tie.Need-add-result
 add-result c =
     let s = c .before .before .args .s in
-    omega (arith, c .before .open-readers .ensures, c .count-one .ensures, one-low (s .writer .active), count-low (s .head .n) (λ (i : ℕ). readerAt s i .active))
+    omega (arith, c .before .open-readers .ensures, c .count-one .ensures, one-low (s .writer .active), count-low (s .head .n) (λ (i : ℕ). asCounted (readerAt s i) .active))
 
 returns : tie.Need-returns
 returns c = rw (c .before .open-readers .ensures, c .count-one .ensures)

@@ -1,5 +1,5 @@
 use Rattle.words.proofs.Laws.Counting.{all-more, all-none}
-use Rattle.common.specs.State.{readerAt}
+use Rattle.common.specs.State.{readerAt, asCounted}
 use Rattle.register.specs.Rules.{rulesOf}
 use Rattle.words.specs.Counting.{all}
 use Prim.Native.Nat.{ℕ, _-_, _≤_}
@@ -9,7 +9,7 @@ use Rattle.register.proofs.range.readers_ok.Statement.{statement}
 use Rattle.register.proofs.range.readers_ok.Tie as tie
 
 abbrev Inv-loop : tie.InvT-loop
-Inv-loop s counted n ok₀ i₀ ok i = (counted ≡ s .head .counted) × (n ≡ s .head .n) × (i ≤ n) × (n ≤ 16) × (ok ≡ all i (λ (j : ℕ). rulesOf (s .head .counted) .readerOk (s .head .n) (readerAt s j)))
+Inv-loop s counted n ok₀ i₀ ok i = (counted ≡ s .head .counted) × (n ≡ s .head .n) × (i ≤ n) × (n ≤ 16) × (ok ≡ all i (λ (j : ℕ). rulesOf (s .head .counted) .readerOk (s .head .n) (asCounted (readerAt s j))))
 
 abbrev μ-loop : tie.MeasureT-loop
 μ-loop s counted n ok₀ i₀ ok i = n - i
@@ -20,11 +20,11 @@ loop-holds c = (refl, refl, omega arith, omega arith, sym (all-none _))
 cast-loop : tie.Need-cast-loop Inv-loop μ-loop
 cast-loop c = omega arith
 
-mul-r : tie.Need-mul-r Inv-loop μ-loop
-mul-r c = omega arith
+mul-as-counted : tie.Need-mul-as-counted Inv-loop μ-loop
+mul-as-counted c = omega arith
 
-element-copy-out-r : tie.Need-element-copy-out-r Inv-loop μ-loop
-element-copy-out-r c = omega arith
+element-copy-out-as-counted : tie.Need-element-copy-out-as-counted Inv-loop μ-loop
+element-copy-out-as-counted c = omega arith
 
 cast-reader-ok : tie.Need-cast-reader-ok Inv-loop μ-loop
 cast-reader-ok c = omega arith
@@ -37,15 +37,15 @@ loop-less c = omega arith
 
 loop-again : tie.Need-loop-again Inv-loop μ-loop
 loop-again c =
-    let i = (c .before .before .before .loop .i) in
-    let s = (c .before .before .before .before .args .t1) in
-    (refl, refl, omega arith, omega arith, rw (c .before .before .before .loop .inv .4, c .reader-ok .ensures) (sym (all-more i (λ (j : ℕ). rulesOf (s .head .counted) .readerOk (s .head .n) (readerAt s j)))))
+    let i = (c .before .before .before .before .loop .i) in
+    let s = (c .before .before .before .before .before .args .t1) in
+    (refl, refl, omega arith, omega arith, rw (c .before .before .before .before .loop .inv .4, c .reader-ok .ensures, c .before .as-counted .ensures) (sym (all-more i (λ (j : ℕ). rulesOf (s .head .counted) .readerOk (s .head .n) (asCounted (readerAt s j))))))
 
 returns : tie.Need-returns Inv-loop μ-loop
 returns c =
     let s = c .before .before .args .t1 in
     let e : c .before .loop .i ≡ s .head .n = omega arith in
-    c .before .loop .inv .4 ∙ ap (λ (k : ℕ). all k (λ (j : ℕ). rulesOf (s .head .counted) .readerOk (s .head .n) (readerAt s j))) e
+    c .before .loop .inv .4 ∙ ap (λ (k : ℕ). all k (λ (j : ℕ). rulesOf (s .head .counted) .readerOk (s .head .n) (asCounted (readerAt s j)))) e
 
 pub readers-ok-spec : {M : Type 1} → statement M
 readers-ok-spec =
@@ -55,8 +55,9 @@ readers-ok-spec =
     μ-loop
     loop-holds
     cast-loop
-    mul-r
-    element-copy-out-r
+    mul-as-counted
+    element-copy-out-as-counted
+    (λ c κs. tt)
     cast-reader-ok
     (λ c κs. tt)
     add-i

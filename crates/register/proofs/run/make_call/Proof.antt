@@ -1,4 +1,4 @@
-use Rattle.register.proofs.RunLaws.{calls-write, calls-read, calls-step}
+use Rattle.register.proofs.RunLaws.{calls-write, calls-read, calls-step, calls-retire}
 use mathlib.Core.Path.{_∙_}
 use denote.Ref.{now}
 use borrow.Author.Needs.{needs}
@@ -17,8 +17,13 @@ returns-2 c =
 
 returns-3 : tie.Need-returns-3
 returns-3 c =
-    let a = c .before .before .before .before .before .before .before .before .before .before .before .args in
-    c .before .before .before .before .step .ensures .0 ∙ calls-step _ (a .s) (now (a .table)) (now (a .log)) (a .word) (c .before .before .before .before .before .before .before .before .if1 .left) (c .before .before .before .before .before .before .before .if2 .left)
+    let a = c .before .before .before .before .before .before .before .before .before .before .before .before .args in
+    c .before .before .before .before .step .ensures .0 ∙ calls-step _ (a .s) (now (a .table)) (now (a .log)) (a .word) (c .before .before .before .before .before .before .before .before .before .if1 .left) (c .before .before .before .before .before .before .before .before .if2 .left) (c .before .before .before .before .before .before .before .if3 .taken)
+
+returns-4 : tie.Need-returns-4
+returns-4 c =
+    let a = c .before .before .before .before .before .before .before .before .before .before .before .before .args in
+    c .before .before .before .before .retire .ensures .0 ∙ calls-retire _ (a .s) (now (a .table)) (now (a .log)) (a .word) (c .before .before .before .before .before .before .before .before .before .if1 .left) (c .before .before .before .before .before .before .before .before .if2 .left) (c .before .before .before .before .before .before .before .if3 .left)
 
 pub make-call-spec : {M : Type 1} → statement M
 make-call-spec =
@@ -36,4 +41,8 @@ make-call-spec =
     (λ c κs. search needs)
     (λ c. search needs)
     (λ c. search needs)
-    returns-3)
+    returns-3
+    (λ c κs. search needs)
+    (λ c. search needs)
+    (λ c. search needs)
+    returns-4)

@@ -1,5 +1,5 @@
 use Rattle.register.proofs.KindLaws.{cells-low, fresh-words, kind-is}
-use Rattle.register.proofs.CallLaws.{refusal, no-readers, no-cells, no-rows, all-set}
+use Rattle.register.proofs.CallLaws.{gives, no-readers, no-cells, no-rows, all-set}
 use Rattle.register.specs.Rules.{rulesOf}
 use Rattle.common.specs.SetUp.{noState}
 use Rattle.words.proofs.Laws.Choice.{left, right}
@@ -39,19 +39,19 @@ returns c =
 returns-2 : tie.Need-returns-2
 returns-2 c =
     let a = c .before .before .before .before .before .before .before .args in
-    refusal (c .no-set-up .result) _ _ _ _ (c .no-set-up .ensures .0) (c .no-set-up .ensures .1 ∙ ap noState (sym (kind-is (a .counted))))
+    gives (c .no-set-up .result) _ _ _ _ (c .no-set-up .ensures .0) (c .no-set-up .ensures .1 ∙ ap noState (sym (kind-is (a .counted))))
     ∙ no-rows (rulesOf (a .counted)) (a .n) (a .value) (a .fresh) (now (a .table)) (now (a .log)) (c .before .before .before .before .if1 .taken) (omega (arith, c .before .before .if2 .taken, c .before .before .before .cells-of .ensures)) (c .before .if3 .left)
 
 returns-3 : tie.Need-returns-3
 returns-3 c =
     let a = c .before .before .before .before .before .before .args in
-    refusal (c .no-set-up2 .result) _ _ _ _ (c .no-set-up2 .ensures .0) (c .no-set-up2 .ensures .1 ∙ ap noState (sym (kind-is (a .counted))))
+    gives (c .no-set-up2 .result) _ _ _ _ (c .no-set-up2 .ensures .0) (c .no-set-up2 .ensures .1 ∙ ap noState (sym (kind-is (a .counted))))
     ∙ no-cells (rulesOf (a .counted)) (a .n) (a .value) (a .fresh) (now (a .table)) (now (a .log)) (c .before .before .before .if1 .taken) (omega (arith, c .before .if2 .left, c .before .before .cells-of .ensures))
 
 returns-4 : tie.Need-returns-4
 returns-4 c =
     let a = c .before .before .before .before .args in
-    refusal (c .no-set-up3 .result) _ _ _ _ (c .no-set-up3 .ensures .0) (c .no-set-up3 .ensures .1 ∙ ap noState (sym (kind-is (a .counted))))
+    gives (c .no-set-up3 .result) _ _ _ _ (c .no-set-up3 .ensures .0) (c .no-set-up3 .ensures .1 ∙ ap noState (sym (kind-is (a .counted))))
     ∙ no-readers (rulesOf (a .counted)) (a .n) (a .value) (a .fresh) (now (a .table)) (now (a .log)) (c .before .if1 .left)
 
 pub set-up-of-spec : {M : Type 1} → statement M

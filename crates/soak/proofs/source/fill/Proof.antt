@@ -6,10 +6,10 @@ use Rattle.soak.proofs.source.fill.Statement.{statement}
 use Rattle.soak.proofs.source.fill.Tie as tie
 
 abbrev Inv-loop : tie.InvT-loop
-Inv-loop words₀ n burst s₀ i₀ words s i = length words ≡ length words₀
+Inv-loop words₀ n burst span s₀ i₀ words s i = length words ≡ length words₀
 
 abbrev μ-loop : tie.MeasureT-loop
-μ-loop words₀ n burst s₀ i₀ words s i = length words₀ - i
+μ-loop words₀ n burst span s₀ i₀ words s i = length words₀ - i
 
 pub fill-spec : {M : Type 1} → statement M
 fill-spec =
