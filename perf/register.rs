@@ -62,6 +62,7 @@ pub struct Register {
     n: usize,
     rows: usize,
     used: usize,
+    opens: usize, // open operations
     writer: Writer,
     readers: [Reader; 16],
 }
@@ -98,10 +99,11 @@ impl Register {
             found: None,
             result: other,
         };
-        Ok(Register { n: n as usize, rows: log.len(), used: 1, writer, readers: [reader; 16] })
+        Ok(Register { n: n as usize, rows: log.len(), used: 1, opens: 0, writer, readers: [reader; 16] })
     }
 
-    fn open_operations(&self) -> usize {
+    /// The open operations by count, which question 4 holds the number to.
+    fn count_open(&self) -> usize {
         self.writer.open as usize + self.readers[..self.n].iter().filter(|r| r.is_open()).count()
     }
 
@@ -113,19 +115,30 @@ impl Register {
             && self.rows == log.len()
             && (3..=4096).contains(&self.rows)
             && (1..=self.rows).contains(&self.used)
-            && self.used + self.open_operations() <= self.rows
+            && self.opens == self.count_open()
+            && self.used + self.opens <= self.rows
             && self.writer.in_range(n as u32)
             && self.readers[..n].iter().all(|r| r.in_range(n as u32))
     }
 
     /// Question 7.
     fn has_room(&self) -> bool {
-        self.used + self.open_operations() + 2 <= self.rows
+        self.used + self.opens + 2 <= self.rows
     }
 
     fn add_row(&mut self, log: &mut [u64], row: u64) {
         log[self.used] = row;
         self.used += 1;
+    }
+
+    fn add_begin(&mut self, log: &mut [u64], row: u64) {
+        self.add_row(log, row);
+        self.opens += 1;
+    }
+
+    fn add_end(&mut self, log: &mut [u64], row: u64) {
+        self.add_row(log, row);
+        self.opens -= 1;
     }
 
     pub fn begin_write(&mut self, table: &mut [u64], log: &mut [u64], reading: u32) -> Result<u32, Refusal> {
@@ -143,7 +156,7 @@ impl Register {
         w.moved = 0;
         w.reading = reading;
         w.barred = 0;
-        self.add_row(log, row(1, 0, reading));
+        self.add_begin(log, row(1, 0, reading));
         Ok(0)
     }
 
@@ -173,7 +186,7 @@ impl Register {
         r.open = true;
         r.second = false;
         r.moved = 0;
-        self.add_row(log, row(3, p, 0));
+        self.add_begin(log, row(3, p, 0));
         Ok(0)
     }
 
@@ -190,7 +203,7 @@ impl Register {
             }
             self.writer.step(self.n, table);
             if !self.writer.open {
-                self.add_row(log, row(2, 0, 0));
+                self.add_end(log, row(2, 0, 0));
             }
             return Ok(self.writer.moved);
         }
@@ -204,14 +217,16 @@ impl Register {
         r.step(self.n, p as usize, table);
         let (open, moved, reading) = (r.open, r.moved, r.result.reading);
         if !open {
-            self.add_row(log, row(4, p, reading));
+            self.add_end(log, row(4, p, reading));
         }
         Ok(moved)
     }
 
     pub fn retire(&mut self, table: &mut [u64], log: &mut [u64], p: u32) -> Result<u32, Refusal> {
         self.asked_reader(table, log, p)?;
-        self.readers[p as usize - 1].retired = true;
+        let r = &mut self.readers[p as usize - 1];
+        r.retired = true;
+        self.opens -= r.open as usize;
         Ok(0)
     }
 }

@@ -1,6 +1,6 @@
 #!/usr/bin/env python3
 """Outside model of the arrow register and its judge, written from document 01 alone, and from
-document 02 for the requests that have landed (cards 1, 2, 3 and 6; card 9, with its report
+document 02 for the requests that have landed (cards 1, 2, 3, 5 and 6; card 9, with its report
 CS-R8704; card 13; card 4 changes nothing that is told here).
 
     model.py bench              text on standard input, the bench's print on standard output
@@ -127,6 +127,7 @@ class Calls:
             return ('refused', 3)
         self.n, self.table, self.log, self.used = n, table, log, 0
         self.open = [None] * (n + 1)
+        self.busy = 0  # open operations: “store their number in the state” (02, card 5)
         self.retired = set()  # “The state gains the set of retired readers” (02, card 1)
         self._add_row(5, n, start)
         return ('set up',)
@@ -146,7 +147,8 @@ class Calls:
         if refused:
             return refused
         self.retired.add(i)
-        self.open[i] = None
+        if self.open[i] is not None:
+            self._close(i)
         return ('retired',)
 
     def _refused_reader(self, i):
@@ -160,12 +162,12 @@ class Calls:
         """“is it idle (6)? Are free rows at least open operations plus 2 (7)?”."""
         if self.open[p] is not None:
             return ('refused', 6)
-        busy = sum(operation is not None for operation in self.open)
-        if len(self.log) - self.used < busy + 2:
+        if len(self.log) - self.used < self.busy + 2:
             return ('refused', 7)
         if p == 0 and self._spent():
             return ('refused', 14)
         self.open[p] = Operation(reading)
+        self.busy += 1
         self._add_row(kind, p, reading)
         return ('begun',)
 
@@ -195,7 +197,12 @@ class Calls:
     def _end(self, p, kind, reading):
         """The end row; “the processor is idle”."""
         self._add_row(kind, p, reading)
+        self._close(p)
+
+    def _close(self, p):
+        """An operation is open no longer: “ends and retirements maintain it” (02, card 5)."""
         self.open[p] = None
+        self.busy -= 1
 
 
 class Register(Calls):
@@ -674,13 +681,15 @@ class Range:
     log: int  # rows of this log
     rows: int  # the log's length as recorded
     used: int
+    busy: int  # open operations, by the number stored
     moved: dict  # the words moved by each processor whose operation has begun and not ended
     retired: set = field(default_factory=set, kw_only=True)  # readers
 
     def open(self):
-        """The words moved in each open operation: that of a retired reader “stops counting as
-        open in questions 4 and 7” (02, card 1)."""
-        return {p: moved for p, moved in self.moved.items() if p not in self.retired}
+        """The words moved in each open operation, of processors 0..n: that of a retired reader
+        “stops counting as open in questions 4 and 7” (02, card 1)."""
+        return {p: moved for p, moved in self.moved.items()
+                if p <= self.n and p not in self.retired}
 
 
 @dataclass
@@ -701,13 +710,14 @@ class CountedRange(Range):
 def sizes_in_range(state, cells):
     """“n 1 to 16; this table n²+n cells or more; this log as long as recorded, 3 to 4,096;
     rows used 1 to that; free rows at least the open operations”; “questions 2 and 4 take n²
-    cells” (02, card 3)."""
+    cells” (02, card 3); “A state whose number is off is out of range” (02, card 5)."""
     return (1 <= state.n <= MAX_READERS
             and state.cells >= cells(state.n)
             and state.log == state.rows
             and 3 <= state.rows <= MAX_ROWS
             and 1 <= state.used <= state.rows
-            and state.rows - state.used >= len(state.open()))
+            and state.busy == len(state.open())
+            and state.rows - state.used >= state.busy)
 
 
 def moved_in_range(state):
@@ -1194,9 +1204,23 @@ def test_register_questions():
     equal(register.retire(1), ('retired',), 'an idle reader is retired')
     equal(register.begin_read(1), ('refused', 13), 'a log of 3: the begin of a retired reader')
 
-    begun = TicketRange(n=2, cells=6, log=16, rows=16, used=14, moved={0: 3, 1: 6},
+    begun = TicketRange(n=2, cells=6, log=16, rows=16, used=14, busy=2, moved={0: 3, 1: 6},
                         own=[FIRST_STAMP] + [NO_STAMP] * 2)
+    questions_of_number(begun)
     questions_of_retired(begun, {0: 3, 1: 7}, {'own': [FIRST_STAMP, (0, 64), NO_STAMP]})
+
+
+def questions_of_number(begun):
+    """Question 4 of a state at its edges with the number of open operations off, and right: two
+    are open; or none; or the writer's, where reader 1 is retired and 2 is what a retirement that
+    kept the number would leave. There is no reader 3."""
+    for change, number in (({}, 2), ({'moved': {}}, 0), ({'retired': {1}}, 1),
+                           ({'retired': {2}}, 2), ({'moved': {**begun.moved, 3: 255}}, 2)):
+        for used, busy in product((1, begun.used), (0, 1, 2, 3, MAX_ROWS, (1 << 64) - 1)):
+            state = replace(begun, used=used, busy=busy, **change)
+            equal(in_range(state), busy == number, f'{change}, {used} used: {busy} open')
+    for used in (begun.used, begun.used + 1):
+        equal(in_range(replace(begun, used=used, busy=1)), False, f'{used} used: 1 open')
 
 
 def questions_of_retired(begun, too_many, *changes):
@@ -1204,7 +1228,7 @@ def questions_of_retired(begun, too_many, *changes):
     does it among the open operations; the writer's do, and the further changes."""
     equal(in_range(begun), True, 'a state at its edges')
     for retired in ({1}, {1, 2}):
-        unplugged = replace(begun, retired=retired)
+        unplugged = replace(begun, retired=retired, busy=1)
         for change in ({}, {'used': begun.used + 1}, {'moved': too_many}):
             equal(in_range(replace(unplugged, **change)), True, f'retired {retired}: {change}')
         for change in ({'used': begun.used + 2}, {'moved': {0: 9, 1: 0}}, *changes):
@@ -1366,12 +1390,15 @@ def test_counted_questions():
     equal(steps(register, 1, 3), ('step', 3), 'the end of a read after the last write')
     equal(register.begin_read(1), ('refused', 7), 'the next begin')
 
-    begun = CountedRange(n=2, cells=4, log=16, rows=16, used=14, moved={0: 1, 1: 2}, stamp=5)
+    begun = CountedRange(n=2, cells=4, log=16, rows=16, used=14, busy=2, moved={0: 1, 1: 2},
+                         stamp=5)
+    questions_of_number(begun)
     questions_of_retired(begun, {0: 1, 1: 3}, {'stamp': LAST_STAMP})
     for change in ({'cells': 3}, {'moved': {0: 2, 1: 2}}, {'moved': {0: 1, 1: 3}},
                    {'stamp': LAST_STAMP}, {'used': 15}, {'n': 17}, {'log': 17}):
         equal(in_range(replace(begun, **change)), False, f'out of range: {change}')
-    for change in ({'stamp': LAST_STAMP - 1}, {'stamp': LAST_STAMP, 'moved': {1: 2}}, {'used': 14}):
+    for change in ({'stamp': LAST_STAMP - 1}, {'stamp': LAST_STAMP, 'moved': {1: 2}, 'busy': 1},
+                   {'used': 14}):
         equal(in_range(replace(begun, **change)), True, f'in range: {change}')
 
 
@@ -1386,6 +1413,7 @@ class Watched:
         self.cells = {}  # of each retired reader, as it left them
         self.unended = {}  # words moved by each reader retired in a read
         self.tally = Counter()
+        self.check_number()
 
     def call(self, letter, number):
         """Makes the call, which must be answered as it is here."""
@@ -1403,6 +1431,12 @@ class Watched:
             equal(self.register.used - used, int(wanted[0] == 'begun'), 'rows added')
         for reader, cells in self.cells.items():
             equal(self.row(reader), cells, 'cells of a retired reader')
+        self.check_number()
+
+    def check_number(self):
+        """The number of open operations “equals the count after set-up and after each call” (02,
+        card 5), refused ones too."""
+        equal(self.register.busy, len(self.moved), 'number of open operations')
 
     def refusal(self, letter, p):
         """The number of the first question that is answered no, or 0."""
@@ -1456,7 +1490,8 @@ class Watched:
         equal(judge(rows)[0], 'order', f'log {bytes_of(rows).hex()}')
         must(set(register.log[register.used:]) <= {-1}, 'further rows untouched')
         state = self.state(register.n, len(register.table), len(register.log), len(register.log),
-                           register.used, {**self.moved, **self.unended}, retired=set(self.cells))
+                           register.used, register.busy, {**self.moved, **self.unended},
+                           retired=set(self.cells))
         must(in_range(state), 'question 4')
 
 
@@ -1791,6 +1826,8 @@ def test_register():
             run_register(pick, register, length, 1 + trial % 5, 1 + pick(60))
             check_table(register)
             must(set(register.log[length:]) == {-1}, 'further rows untouched')
+            busy = sum(operation is not None for operation in register.open)
+            equal(register.busy, busy, 'number of open operations')
         equal(judge(register.log[:280])[0], 'order', 'log of the register')
 
 

@@ -125,12 +125,12 @@ def set_up(counted, source):
 
 
 def round_of(counted, n, seed, sum_):
-    """A round, folded: the answers, the whole table and log, the rows used, the judge's answer and
-    the order."""
+    """A round, folded: the answers, the whole table and log, the rows used, the number of open
+    operations, the judge's answer and the order."""
     register, words = set_up(counted, Source(n, seed))
     answers = [MARK] * len(words)
     make_calls(register, words, answers)
-    for word in answers + register.table + register.log + [register.used]:
+    for word in answers + register.table + register.log + [register.used, register.busy]:
         sum_ = fold(sum_, word)
     answer = judge(register.log[:register.used])
     order = answer[1] if answer[0] == 'order' else []

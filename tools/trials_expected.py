@@ -106,8 +106,9 @@ def sessions():
 
 # A fresh state of two readers; and that after W 9, R 1, S 0, S 1.
 FRESH = TicketRange(
-    n=2, cells=306, log=16, rows=16, used=1, own=[FIRST_STAMP] + [NO_STAMP] * 16, moved={})
-BEGUN = replace(FRESH, used=3, moved={0: 1, 1: 1})
+    n=2, cells=306, log=16, rows=16, used=1, busy=0, moved={},
+    own=[FIRST_STAMP] + [NO_STAMP] * 16)
+BEGUN = replace(FRESH, used=3, busy=2, moved={0: 1, 1: 1})
 
 
 def write(moved, barred, ticket):
@@ -149,13 +150,28 @@ def retired(begun, moved):
     """Of either register, a reader retired: 1, whose read is open; 2, idle; one that there is
     not. Of reader 1 words moved that would be too many, and rows used that would leave too few
     free."""
-    yield 'retired reader 1', replace(begun, retired={1})
+    unplugged = replace(begun, retired={1}, busy=1)
+    yield 'retired reader 1', unplugged
     yield 'retired reader 2', replace(begun, retired={2})
     yield 'retired reader 3', replace(begun, retired={3})
     yield 'retired, calls of reader 3', replace(begun, retired={3}), 'R 3, S 3, U 3'
-    yield f'retired, read moved {moved}', replace(begun, retired={1}, moved={0: 1, 1: moved})
+    yield f'retired, read moved {moved}', replace(unplugged, moved={0: 1, 1: moved})
     for used in (13, 14, 15, 16):
-        yield f'retired, rows used {used}', replace(begun, retired={1}, used=used)
+        yield f'retired, rows used {used}', replace(unplugged, used=used)
+
+
+def numbers(fresh, begun):
+    """Of either register, the number of open operations: two are open; none; one, beside that of
+    retired reader 1; two, beside that of a reader that there is not."""
+    third = {**begun.moved, 3: 255}
+    for name, state, stored in (
+            ('', begun, (0, 1, 2, 3, 14, 255)),
+            ('rows used 15, ', replace(begun, used=15), (1,)),
+            ('fresh, ', fresh, (0, 1, 255)),
+            ('retired, ', replace(begun, retired={1}), (0, 1, 2)),
+            ('reader 3 open, ', replace(begun, moved=third), (2, 3))):
+        for busy in stored:
+            yield f'{name}open operations {busy}', replace(state, busy=busy)
 
 
 RANGES = [
@@ -173,7 +189,8 @@ RANGES = [
     unstamped(1, range(0, 5)), unstamped(1, range(0, 6)),
     (f'count {LAST_STAMP}', BEGUN),  # the counted register's
     *retired(BEGUN, 255),
-    ('retired, ' + stamp(1, 64, 1)[0], replace(stamp(1, 64, 1)[1], retired={1})),
+    ('retired, ' + stamp(1, 64, 1)[0], replace(stamp(1, 64, 1)[1], retired={1}, busy=1)),
+    *numbers(FRESH, BEGUN),
 ]
 
 
@@ -192,7 +209,7 @@ def answer_with(state, letter, p):
         return ('step', state.moved[p] + 1) if p in state.moved else ('refused', 8)
     if p in state.moved:
         return ('refused', 6)
-    if state.rows - state.used < len(state.open()) + 2:
+    if state.rows - state.used < state.busy + 2:
         return ('refused', 7)
     if letter == 'W' and isinstance(state, CountedRange) and state.stamp == LAST_STAMP:
         return ('refused', 14)
@@ -315,8 +332,8 @@ CELLS_SET = [
 
 # A fresh state of two readers with fresh stamp 5; that after W 9, R 1, S 0, S 1; and one that has
 # spent its stamps.
-COUNTED_FRESH = CountedRange(n=2, cells=306, log=16, rows=16, used=1, moved={}, stamp=5)
-COUNTED_BEGUN = replace(COUNTED_FRESH, used=3, moved={0: 1, 1: 1})
+COUNTED_FRESH = CountedRange(n=2, cells=306, log=16, rows=16, used=1, busy=0, moved={}, stamp=5)
+COUNTED_BEGUN = replace(COUNTED_FRESH, used=3, busy=2, moved={0: 1, 1: 1})
 SPENT = replace(COUNTED_FRESH, stamp=LAST_STAMP)
 
 
@@ -336,13 +353,13 @@ COUNTED_RANGES = [
     *((f'fresh, stamp {stamp}', replace(COUNTED_FRESH, stamp=stamp))
       for stamp in (LAST_STAMP - 1, LAST_STAMP)),
     *((f'fresh, stamp spent, rows used {used}', replace(SPENT, used=used)) for used in (14, 15)),
-    # What the first register alone has; there is no reader 3.
+    # What the first register alone has.
     *(counted_write(moved, 'with tickets, ') for moved in (0, 1, 2)),
     ('fresh, with tickets, write moved 255', COUNTED_FRESH),
     *(counted_read(moved, 'second attempt, ') for moved in (0, 2, 3)),
     ('fresh, second attempt, read moved 255', COUNTED_FRESH),
-    ('reader 3 open', COUNTED_BEGUN),
     *retired(COUNTED_BEGUN, 255),
+    *numbers(COUNTED_FRESH, COUNTED_BEGUN),
 ]
 
 

@@ -1,5 +1,5 @@
 -- The call that follows a list, in the book and in the register: a sub-step of an open operation, and a retired reader's call.
-use Prim.Native.Nat.{ℕ, _+_, _-_, _≤_}
+use Prim.Native.Nat.{ℕ, _+_, _≤_}
 use mathlib.Core.Path.{_≡_, sym, ap, _∙_}
 use mathlib.Core.Bool.{true, false}
 use mathlib.Core.List.{List}
@@ -14,7 +14,7 @@ use Rattle.common.specs.declared.Refusal.the-variants.{Retired}
 use Rattle.common.specs.declared.Writer.{Writer}
 use Rattle.common.specs.declared.Reader.{Reader}
 use Rattle.common.specs.declared.State.{State}
-use Rattle.common.specs.State.{readerAt, isRetired, withReader, retires}
+use Rattle.common.specs.State.{isRetired, withRetired}
 use Rattle.common.specs.Rules.{Rules, stateOk}
 use Rattle.common.specs.Register.{retireOf, callOf}
 use Rattle.common.specs.Book.{Operation, open-with, Model, Telling, Told, movesWrite, movesRead, told}
@@ -40,7 +40,7 @@ module _ {Stamp Cell : Type 0} (B : Telling Stamp Cell) (n len : ℕ) (b : Model
 
 -- a retirement that is accepted, in the register
 pub retires-to : (R : Rules) (s : State) (t l : List ℕ) (p : ℕ) → stateOk R s (length t) (length l) ≡ true → 1 ≤ p → p ≤ s .head .n → isRetired s p ≡ false
-    → callOf R s t l (retire p) .state ≡ withReader s (p - 1) (retires (readerAt s (p - 1))) (s .head)
+    → callOf R s t l (retire p) .state ≡ withRetired s p
 unfolding callOf retireOf
 retires-to R s t l p e p1 pn free = rw (e, both (leb 1 p) (leb p (s .head .n)) (le-leb 1 p p1) (le-leb p (s .head .n) pn), free)
 

@@ -8,7 +8,7 @@ use native.Mathlib.Omega.{arith}
 use native.Mathlib.Decide.{ℕ-discrete}
 use lib.ListN.{length, getD, set, length-set}
 use lib.Seq.{getD-set-same, getD-set-other}
-use Rattle.words.specs.Counting.{one, count}
+use Rattle.words.specs.Counting.{one}
 use Rattle.words.proofs.Laws.Choice.{le-ind, eq-ind, pick-ind}
 use Rattle.words.proofs.Laws.Counting.{count-one}
 use Rattle.common.specs.declared.Head.{Head}
@@ -16,17 +16,18 @@ use Rattle.common.specs.declared.Writer.{Writer}
 use Rattle.common.specs.declared.Reader.{Reader}
 use Rattle.common.specs.declared.State.{State}
 use Rattle.common.specs.Calls.{Call, write, read, step, retire}
-use Rattle.common.specs.Effects.{AtMostOne, as-it-was, one-set}
+use Rattle.common.specs.Effects.{AtMostOne, as-it-was, one-set, Passes}
+use Rattle.common.specs.Head.{headWith}
 use Rattle.common.specs.State.{blank, readerAt, isRetired, asCounted, openIn, withWriter, withReader, writerBegins, readerBegins, retires}
 use Rattle.common.specs.Rules.{Rules, stateOk, InRange}
 use Rattle.common.specs.SetUp.{Outcome}
 use Rattle.common.specs.Register.{beginWriteOf, beginReadOf, stepWriter, stepReader, stepOf, retireOf, callOf}
 use Rattle.common.proofs.Effects.{retires-still}
-use Rattle.common.proofs.HeadLaws.{head-moves}
-use Rattle.common.proofs.LogRows.{end-row, pick-length}
+use Rattle.common.proofs.HeadLaws.{head-moves, head-steps}
+use Rattle.common.proofs.LogRows.{pick-length}
 use Rattle.common.proofs.Lawful.{Lawful}
 use Rattle.common.proofs.Asked.{as-processor, retired-at, counts}
-use Rattle.common.proofs.Range.{test-range, range-test, stands, reader-ok}
+use Rattle.common.proofs.Range.{test-range, range-test, stands, reader-ok, reader-open, writer-open}
 
 -- A list with at most one place set has its length.
 pub one-length : (b : ℕ) (l m : List ℕ) → AtMostOne b l m → length m ≡ length l
@@ -39,16 +40,13 @@ pub record Good (R : Rules) (s : State) (cells log : ℕ) : Type 0 where
   pub ok : InRange R s cells log
 
 module _ (R : Rules) (s : State) (cells log : ℕ) (g : Good R s cells log) where
-  abbrev moved : ℕ → Head
-  moved used = record { counted = s .head .counted; n = s .head .n; rows = s .head .rows; used = used }
-
-  -- The writer is replaced, and a row added or not.
-  with-writer : (w : Writer) (used : ℕ) → R .writerOk (s .head .n) w ≡ true → s .head .used ≤ used
-      → used + one (w .active) + openIn s ≤ s .head .rows + one (s .writer .active) → Good R (withWriter s w (moved used)) cells log
-  with-writer w used k l f = record {
+  -- The writer is replaced, a row added or not, and the number of open operations goes with its write.
+  with-writer : (w : Writer) (used opens : ℕ) → R .writerOk (s .head .n) w ≡ true → s .head .used ≤ used
+      → opens + one (s .writer .active) ≡ s .head .opens + one (w .active) → used + opens ≤ s .head .rows → Good R (withWriter s w (headWith (s .head) used opens)) cells log
+  with-writer w used opens k l e f = record {
     sized = g .sized;
     ok = record {
-      head-ok = head-moves _ (s .head) (openIn s) cells log used _ l (omega arith) (g .ok .head-ok);
+      head-ok = head-moves _ (s .head) (openIn s) cells log used opens _ l (omega (arith, e, g .ok .head-ok .opens-is)) f (g .ok .head-ok);
       writer-ok = k;
       readers-ok = g .ok .readers-ok;
     };
@@ -63,7 +61,7 @@ module _ (R : Rules) (s : State) (cells log : ℕ) (g : Good R s cells log) wher
     old j e = getD-set-other (s .readers) i j r blank e
 
     -- the operations that count as open, in the old state and in the new one
-    pub opens-with : (h′ : Head) → h′ .n ≡ s .head .n
+    opens-with : (h′ : Head) → h′ .n ≡ s .head .n
         → openIn (withReader s i r h′) + one (asCounted (readerAt s i) .active) ≡ openIn s + one (asCounted r .active)
     opens-with h′ e =
         let f : ℕ → Bool = λ j. asCounted (getD (set (s .readers) i r) j blank) .active in
@@ -74,12 +72,13 @@ module _ (R : Rules) (s : State) (cells log : ℕ) (g : Good R s cells log) wher
           ap (λ (x : Reader). one (asCounted x .active)) new,
         ))
 
-    with-reader : (used : ℕ) → R .readerOk (s .head .n) (asCounted r) ≡ true → s .head .used ≤ used
-        → used + one (asCounted r .active) + openIn s ≤ s .head .rows + one (asCounted (readerAt s i) .active) → Good R (withReader s i r (moved used)) cells log
-    with-reader used k l f = record {
+    with-reader : (used opens : ℕ) → R .readerOk (s .head .n) (asCounted r) ≡ true → s .head .used ≤ used
+        → opens + one (asCounted (readerAt s i) .active) ≡ s .head .opens + one (asCounted r .active) → used + opens ≤ s .head .rows
+        → Good R (withReader s i r (headWith (s .head) used opens)) cells log
+    with-reader used opens k l e f = record {
       sized = simp length-set (g .sized);
       ok = record {
-        head-ok = head-moves _ (s .head) (openIn s) cells log used _ l (omega (arith, f, opens-with (moved used) refl)) (g .ok .head-ok);
+        head-ok = head-moves _ (s .head) (openIn s) cells log used opens _ l (omega (arith, e, g .ok .head-ok .opens-is, opens-with (headWith (s .head) used opens) refl)) f (g .ok .head-ok);
         writer-ok = g .ok .writer-ok;
         readers-ok = λ j m. elim (ℕ-discrete j i) [ yes e ↦ rw (e, new) k | no e ↦ rw (old j e) (g .ok .readers-ok j m) ];
       };
@@ -110,39 +109,40 @@ module _ (R : Rules) (W : Lawful R) (s : State) (t l : List ℕ) (g : Good R s (
   write-stays : (v : ℕ) → St (beginWriteOf R s t l v)
   unfolding beginWriteOf
   write-stays v = pick-ind St (stateOk R s (length t) (length l)) _ _ (λ _. pick-ind St (s .writer .active) _ _ (λ _. same _ refl refl refl)
-      (λ a. le-ind St (s .head .used + openIn s + 2) (s .head .rows) _ _
+      (λ a. le-ind St (s .head .used + s .head .opens + 2) (s .head .rows) _ _
       (λ h. pick-ind St (R .mayWrite (s .writer)) _ _
       (λ q. record {
         n-same = refl;
         cells-same = refl;
         rows-same = simp length-set;
-        good = with-writer R s _ _ g (writerBegins (s .writer) v) (s .head .used + 1) (W .writer-begins n v (s .writer) (g .ok .head-ok .n-low) (g .ok .writer-ok) q) (omega arith) (omega arith);
+        good = with-writer R s _ _ g (writerBegins (s .writer) v) _ _ (W .writer-begins n v (s .writer) (g .ok .head-ok .n-low) (g .ok .writer-ok) q) (omega arith)
+            (omega (arith, ap one a)) (omega arith);
       })
       (λ _. same _ refl refl refl))
       (λ _. same _ refl refl refl))) (λ _. same _ refl refl refl)
 
   -- Reader p, which is not retired, is replaced by one that is not either.
-  goes-on : (p : ℕ) → 1 ≤ p → p ≤ s .head .n → isRetired s p ≡ false → (r : Reader) (used : ℕ) → r .retired ≡ readerAt s (p - 1) .retired
+  goes-on : (p : ℕ) → 1 ≤ p → p ≤ s .head .n → isRetired s p ≡ false → (r : Reader) (used opens : ℕ) → r .retired ≡ readerAt s (p - 1) .retired
       → R .readerOk (s .head .n) r ≡ true → s .head .used ≤ used
-      → used + one (r .active) + openIn s ≤ s .head .rows + one (readerAt s (p - 1) .active)
-      → Good R (withReader s (p - 1) r (record { counted = s .head .counted; n = s .head .n; rows = s .head .rows; used = used })) (length t) (length l)
-  goes-on p p1 pn free r used e k h f =
+      → opens + one (readerAt s (p - 1) .active) ≡ s .head .opens + one (r .active) → used + opens ≤ s .head .rows
+      → Good R (withReader s (p - 1) r (headWith (s .head) used opens)) (length t) (length l)
+  goes-on p p1 pn free r used opens e k h o f =
       let old = stands s p p1 free in
       let new = counts r (e ∙ sym (retired-at s p (omega arith)) ∙ free) in
-      with-reader R s _ _ g (p - 1) r (omega arith) used (subst (λ (q : Reader). R .readerOk (s .head .n) q ≡ true) (sym new) k) h
-      (omega (arith, f, ap (λ (q : Reader). one (q .active)) new, ap (λ (q : Reader). one (q .active)) old))
+      with-reader R s _ _ g (p - 1) r (omega arith) used opens (subst (λ (q : Reader). R .readerOk (s .head .n) q ≡ true) (sym new) k) h
+      (omega (arith, o, ap (λ (q : Reader). one (q .active)) new, ap (λ (q : Reader). one (q .active)) old)) f
 
   read-stays : (p : ℕ) → St (beginReadOf R s t l p)
   unfolding beginReadOf
   read-stays p = pick-ind St (stateOk R s (length t) (length l)) _ _ (λ _. as-processor St s t l (same _ refl refl refl) (same _ refl refl refl) 1 p _ λ p1 pn free.
       pick-ind St (readerAt s (p - 1) .active) _ _ (λ _. same _ refl refl refl)
-      (λ a. le-ind St (s .head .used + openIn s + 2) (s .head .rows) _ _
+      (λ a. le-ind St (s .head .used + s .head .opens + 2) (s .head .rows) _ _
       (λ h. record {
         n-same = refl;
         cells-same = refl;
         rows-same = simp length-set;
-        good = goes-on p p1 pn free (readerBegins (readerAt s (p - 1))) (s .head .used + 1) refl
-            (W .reader-begins n (readerAt s (p - 1)) (g .ok .head-ok .n-low) (reader-ok s p p1 free pn R _ _ (g .ok))) (omega arith) (omega arith);
+        good = goes-on p p1 pn free (readerBegins (readerAt s (p - 1))) _ _ refl
+            (W .reader-begins n (readerAt s (p - 1)) (g .ok .head-ok .n-low) (reader-ok s p p1 free pn R _ _ (g .ok))) (omega arith) (omega (arith, ap one a)) (omega arith);
       })
       (λ _. same _ refl refl refl))) (λ _. same _ refl refl refl)
 
@@ -150,12 +150,12 @@ module _ (R : Rules) (W : Lawful R) (s : State) (t l : List ℕ) (g : Good R s (
   unfolding stepWriter
   step-w-stays a =
       let q = R .writeStep n (s .writer) t in
-      let f = end-row (s .head .used) (s .head .rows) (openIn s) (s .writer .active) (q .writer .active) (g .ok .head-ok .room) a in
+      let f = head-steps (s .head) (s .writer .active) (q .writer .active) (g .ok .head-ok .room) a (writer-open s R _ _ (g .ok)) in
       record {
         n-same = refl;
         cells-same = one-length (R .cells n) t (q .table) (W .write-cell n (s .writer) t (g .ok .head-ok .n-low) (g .ok .writer-ok) a);
         rows-same = pick-length l (q .writer .active) _ _;
-        good = with-writer R s _ _ g (q .writer) _ (W .writer-turn n (s .writer) t (g .ok .head-ok .n-low) (g .ok .head-ok .n-high) (g .ok .writer-ok) a) (f .0) (f .1);
+        good = with-writer R s _ _ g (q .writer) _ _ (W .writer-turn n (s .writer) t (g .ok .head-ok .n-low) (g .ok .head-ok .n-high) (g .ok .writer-ok) a) (f .0) (f .1) (f .2);
       }
 
   step-r-stays : (p : ℕ) → 1 ≤ p → p ≤ n → isRetired s p ≡ false → readerAt s (p - 1) .active ≡ true → St (stepReader R s t l p)
@@ -164,12 +164,12 @@ module _ (R : Rules) (W : Lawful R) (s : State) (t l : List ℕ) (g : Good R s (
       let r = readerAt s (p - 1) in
       let q = R .readStep n p r t in
       let k = reader-ok s p h1 free h2 R _ _ (g .ok) in
-      let f = end-row (s .head .used) (s .head .rows) (openIn s) (r .active) (q .reader .active) (g .ok .head-ok .room) a in
+      let f = head-steps (s .head) (r .active) (q .reader .active) (g .ok .head-ok .room) a (reader-open s p h1 free h2 R _ _ (g .ok)) in
       record {
         n-same = refl;
         cells-same = one-length (R .cells n) t (q .table) (W .read-cell n p r t h1 h2 k a);
         rows-same = pick-length l (q .reader .active) _ _;
-        good = goes-on p h1 h2 free (q .reader) _ (W .retired-stays n p r t) (W .reader-turn n p r t (g .ok .head-ok .n-low) (g .ok .head-ok .n-high) k a) (f .0) (f .1);
+        good = goes-on p h1 h2 free (q .reader) _ _ (W .retired-stays n p r t) (W .reader-turn n p r t (g .ok .head-ok .n-low) (g .ok .head-ok .n-high) k a) (f .0) (f .1) (f .2);
       }
 
   step-stays : (p : ℕ) → St (stepOf R s t l p)
@@ -189,8 +189,10 @@ module _ (R : Rules) (W : Lawful R) (s : State) (t l : List ℕ) (g : Good R s (
   retires-good p = pick-ind After (stateOk R s (length t) (length l)) _ _
       (λ _. as-processor After s t l (refl, g) (refl, g) 1 p _ λ p1 pn free. (
         refl,
-        with-reader R s _ _ g (p - 1) (retires (readerAt s (p - 1))) (omega arith) (s .head .used)
-            (W .reader-retires n (readerAt s (p - 1)) (reader-ok s p p1 free pn R _ _ (g .ok))) (omega arith) (omega (arith, g .ok .head-ok .room)),
+        with-reader R s _ _ g (p - 1) (retires (readerAt s (p - 1))) (omega arith) _ _
+            (W .reader-retires n (readerAt s (p - 1)) (reader-ok s p p1 free pn R _ _ (g .ok))) (omega arith)
+            (omega (arith, reader-open s p p1 free pn R _ _ (g .ok), ap (λ (r : Reader). one (r .active)) (stands s p p1 free)))
+            (omega (arith, g .ok .head-ok .room)),
       ))
       (λ _. (refl, g))
 
@@ -207,8 +209,9 @@ module _ (R : Rules) (W : Lawful R) (s : State) (t l : List ℕ) (g : Good R s (
   call-stays (step p) = step-stays p
   call-stays (retire p) = retire-stays p
 
--- "a state that passed 4 passes it again after the call"
+-- "a state that passed 4 passes it again after the call", and its number of open operations is the count
 pub passes-again : (R : Rules) → Lawful R → (s : State) (t l : List ℕ) (c : Call) → length (s .readers) ≡ 16 → stateOk R s (length t) (length l) ≡ true
-    → stateOk R (callOf R s t l c .state) (length (callOf R s t l c .table)) (length (callOf R s t l c .log)) ≡ true
+    → Passes R (callOf R s t l c)
 passes-again R W s t l c z e =
-    let k = call-stays R W s t l (record { sized = z; ok = test-range R s _ _ e }) c in rw (k .cells-same, k .rows-same) (range-test R _ _ _ (k .good .ok))
+    let k = call-stays R W s t l (record { sized = z; ok = test-range R s _ _ e }) c in
+    record { in-range = rw (k .cells-same, k .rows-same) (range-test R _ _ _ (k .good .ok)); opens-is = k .good .ok .head-ok .opens-is }

@@ -9,7 +9,7 @@ use Rattle.words.proofs.Laws.Choice.{pick-ind}
 use Rattle.common.specs.declared.State.{State}
 use Rattle.common.specs.Calls.{Call, write, read, step, retire}
 use Rattle.common.specs.Head.{hasRoom}
-use Rattle.common.specs.State.{readerAt, openIn}
+use Rattle.common.specs.State.{readerAt}
 use Rattle.common.specs.Rules.{Rules, stateOk}
 use Rattle.common.specs.SetUp.{Outcome}
 use Rattle.common.specs.Register.{beginWriteOf, beginReadOf, stepOf, stepWriter, stepReader, retireOf, callOf}
@@ -23,7 +23,7 @@ module _ (R : Rules) (s : State) (t l : List ℕ) where
   ok = stateOk R s (length t) (length l)
 
   abbrev room : Bool
-  room = hasRoom (s .head) (openIn s)
+  room = hasRoom (s .head)
 
   pub kind-kept : (c : Call) → callOf R s t l c .state .head .counted ≡ s .head .counted
   unfolding callOf beginWriteOf beginReadOf stepOf stepWriter stepReader retireOf

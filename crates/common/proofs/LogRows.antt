@@ -7,7 +7,6 @@ use native.Mathlib.Omega.{arith}
 use lib.ListN.{length, getD, set, drop, length-append, length-set}
 use lib.Seq.{set-append-seam, drop-cons}
 use Rattle.words.specs.Choice.{pick}
-use Rattle.words.specs.Counting.{one}
 use Rattle.words.proofs.Laws.Choice.{pick-ind}
 
 -- A row more.
@@ -27,12 +26,6 @@ rows-rel L l rows used u e false x h = (simp length-append (omega arith), rw (e,
 pub row-same : (c : Bool) (y z : ℕ) → (c ≡ false → y ≡ z) → (u : List ℕ) (f : ℕ → List ℕ) → pick c u (f y) ≡ pick c u (f z)
 row-same true y z e u f = refl
 row-same false y z e u f = ap f (e refl)
-
--- An end has a row of its own: a tells that the operation was open, b that it still is.
-pub end-row : (used rows opens : ℕ) (a b : Bool) → used + opens ≤ rows → a ≡ true
-    → (used ≤ pick b used (used + 1)) × (pick b used (used + 1) + one b + opens ≤ rows + one a)
-end-row used rows opens a true h e = omega (arith, ap one e)
-end-row used rows opens a false h e = omega (arith, ap one e)
 
 pub pick-length : (l : List ℕ) (b : Bool) (u x : ℕ) → length (pick b l (set l u x)) ≡ length l
 pick-length l b u x = pick-ind (λ (m : List ℕ). length m ≡ length l) b _ _ (λ _. refl) (λ _. simp length-set)

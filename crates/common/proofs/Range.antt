@@ -2,8 +2,9 @@
 use Prim.Native.Nat.{ℕ, _-_, _≤_, _<_}
 use mathlib.Core.Path.{_≡_, refl, sym, subst, ap, _∙_}
 use mathlib.Core.Bool.{Bool, true, false}
-use Rattle.words.proofs.Laws.Choice.{left, right, both}
 use native.Mathlib.Omega.{arith}
+use Rattle.words.specs.Counting.{one}
+use Rattle.words.proofs.Laws.Choice.{left, right, both}
 use Rattle.words.proofs.Laws.Counting.{all-at, all-make, count-some}
 use Rattle.common.specs.declared.Reader.{Reader}
 use Rattle.common.specs.declared.State.{State}
@@ -38,8 +39,8 @@ module _ (R : Rules) (s : State) (cells log : ℕ) where
       both head _ (in-head _ _ _ _ _ (k .head-ok))
       (both writer _ (k .writer-ok) (all-make (s .head .n) (λ i. R .readerOk (s .head .n) (asCounted (readerAt s i))) (k .readers-ok)))
 
--- Reader p, if it is not retired: it counts as it stands, passes question 4 by itself, and has a row kept for its end while its read is
--- open.
+-- Reader p, if it is not retired: it counts as it stands, passes question 4 by itself, and its read, while it is open, is one of the open
+-- operations and has a row kept for its end.
 module _ (s : State) (p : ℕ) (p1 : 1 ≤ p) (free : isRetired s p ≡ false) where
   pub stands : asCounted (readerAt s (p - 1)) ≡ readerAt s (p - 1)
   stands = counts (readerAt s (p - 1)) (sym (retired-at s p (omega arith)) ∙ free)
@@ -48,12 +49,24 @@ module _ (s : State) (p : ℕ) (p1 : 1 ≤ p) (free : isRetired s p ≡ false) w
     pub reader-ok : R .readerOk (s .head .n) (readerAt s (p - 1)) ≡ true
     reader-ok = subst (λ (r : Reader). R .readerOk (s .head .n) r ≡ true) stands (k .readers-ok (p - 1) (omega arith))
 
-    pub reader-room : readerAt s (p - 1) .active ≡ true → s .head .used < s .head .rows
-    reader-room a = omega (
+    pub reader-open : one (readerAt s (p - 1) .active) ≤ s .head .opens
+    reader-open = omega (
       arith,
-      k .head-ok .room,
-      count-some (s .head .n) (λ i. asCounted (readerAt s i) .active) (p - 1) (omega arith) (ap (λ (r : Reader). r .active) stands ∙ a),
+      k .head-ok .opens-is,
+      count-some (s .head .n) (λ i. asCounted (readerAt s i) .active) (p - 1) (omega arith),
+      ap (λ (r : Reader). one (r .active)) stands,
     )
+
+    pub reader-room : readerAt s (p - 1) .active ≡ true → s .head .used < s .head .rows
+    reader-room a = omega (arith, k .head-ok .room, reader-open, ap one a)
+
+-- The same of the writer's write.
+module _ (s : State) (R : Rules) (cells log : ℕ) (k : InRange R s cells log) where
+  pub writer-open : one (s .writer .active) ≤ s .head .opens
+  writer-open = omega (arith, k .head-ok .opens-is)
+
+  pub writer-room : s .writer .active ≡ true → s .head .used < s .head .rows
+  writer-room a = omega (arith, k .head-ok .room, writer-open, ap one a)
 
 -- A refused set-up's state is out of range with every table and log.
 pub no-state : (R : Rules) (counted : Bool) (cells log : ℕ) → stateOk R (noState counted) cells log ≡ false

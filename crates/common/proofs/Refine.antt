@@ -10,7 +10,6 @@ use lib.Seq.{getD-set-same, getD-set-other}
 use lib.Dec.{leb}
 use borrow.Author.Tests.{leb-true}
 use Rattle.words.specs.Choice.{pick}
-use Rattle.words.specs.Counting.{one}
 use Rattle.words.specs.Row.{rowOf}
 use Rattle.words.specs.Update.{upd}
 use Rattle.words.proofs.Laws.Choice.{pick-ind, pick-two, pick-both, pick-yes, pick-no, eq-two, left, right, never}
@@ -20,17 +19,18 @@ use Rattle.common.specs.Calls.{Call, write, read, step, retire}
 use Rattle.common.specs.declared.Answer.the-variants.{Accepted, Moved}
 use Rattle.common.specs.declared.Refusal.{Refusal}
 use Rattle.common.specs.declared.Refusal.the-variants.{Range, Processor, Retired, Busy, Full, Idle, Spent}
+use Rattle.common.specs.declared.Head.{Head}
 use Rattle.common.specs.declared.Writer.{Writer}
 use Rattle.common.specs.declared.Reader.{Reader}
 use Rattle.common.specs.declared.State.{State}
-use Rattle.common.specs.Head.{isProcessor, began, stepped}
+use Rattle.common.specs.Head.{isProcessor, hasRoom, headWith, began, freed}
 use Rattle.common.specs.State.{blank, readerAt, isRetired, stillOpen, asCounted, openIn, withWriter, withReader, writerBegins, readerBegins, retires, valueIn}
 use Rattle.common.specs.Rules.{WriteStep, ReadStep, Rules, stateOk}
 use Rattle.common.specs.SetUp.{Outcome, refused}
 use Rattle.common.specs.Register.{asProcessor, beginWriteOf, beginReadOf, stepWriter, stepReader, stepOf, retireOf, callOf}
 use Rattle.common.specs.Book.{Operation, idle, open-with, isOpen, Model, Turn, Telling, Told, openAt, openCount, declined, begun, ofProcessor, begins, beginsWrite, movesWrite, movesRead, withdrawn, told}
 use Rattle.common.proofs.LogRows.{rows-rel, row-same}
-use Rattle.common.proofs.Range.{range-test, reader-ok, reader-room}
+use Rattle.common.proofs.Range.{range-test, reader-ok, reader-room, writer-room}
 use Rattle.common.proofs.Asked.{retired-at, retired-own, retired-other}
 use Rattle.common.proofs.Keep.{Good}
 use Rattle.common.proofs.Lawful.{Lawful, WTurnRel, RTurnRel, Simulates}
@@ -69,7 +69,8 @@ module _ {Stamp Cell : Type 0} (R : Rules) (B : Telling Stamp Cell) (WIs : ℕ �
         let active = active-r p h1 h2 in
         λ i. stillOpen (gone i) (active i)
 
-    open-is : openIn s ≡ openCount n b
+    -- the number of open operations, in the state and in the book
+    pub open-is : openIn s ≡ openCount n b
     open-is = rw (
       active-w,
       count-same n (λ i. asCounted (readerAt s i) .active) (λ i. openAt b (suc i))
@@ -86,10 +87,14 @@ module _ {Stamp Cell : Type 0} (R : Rules) (B : Telling Stamp Cell) (WIs : ℕ �
     abbrev book : ℕ → List ℕ → Bool → ℕ → Stamp → Operation Cell → Model Stamp Cell
     book p T′ a x st q = record { table = T′; rows = pick a (b .rows) (b .rows ++ x ∷ []); stamp = upd (b .stamp) p st; op = upd (b .op) p q; retired = b .retired }
 
+    -- The head with a row more or not, and any number of open operations.
+    abbrev after : Bool → ℕ → Head
+    after a opens = headWith (s .head) (pick a (s .head .used) (s .head .used + 1)) opens
+
     -- The writer, and nothing else of the state and of the book's processors, is replaced.
-    module _ (w : Writer) (a : Bool) (x : ℕ) (room : a ≡ false → s .head .used < s .head .rows) (t′ T′ : List ℕ) (te : t′ ≡ T′ ++ X) (sz : length T′ ≡ R .cells n)
+    module _ (w : Writer) (a : Bool) (opens x : ℕ) (room : a ≡ false → s .head .used < s .head .rows) (t′ T′ : List ℕ) (te : t′ ≡ T′ ++ X) (sz : length T′ ≡ R .cells n)
         (st : Stamp) (q : Operation Cell) (k : WIs n w st q) where
-      put-w : Rel X L (withWriter s w (stepped (s .head) a)) t′ (pick a l (set l (s .head .used) x)) (book 0 T′ a x st q)
+      put-w : Rel X L (withWriter s w (after a opens)) t′ (pick a l (set l (s .head .used) x)) (book 0 T′ a x st q)
       put-w = let y = added a x room in record {
         table-is = te;
         size-is = sz;
@@ -101,9 +106,9 @@ module _ {Stamp Cell : Type 0} (R : Rules) (B : Telling Stamp Cell) (WIs : ℕ �
       }
 
     -- The same of reader p, which is as retired as it was.
-    module _ (p : ℕ) (p1 : 1 ≤ p) (pn : p ≤ n) (r : Reader) (a : Bool) (x : ℕ) (room : a ≡ false → s .head .used < s .head .rows) (t′ T′ : List ℕ) (te : t′ ≡ T′ ++ X)
+    module _ (p : ℕ) (p1 : 1 ≤ p) (pn : p ≤ n) (r : Reader) (a : Bool) (opens x : ℕ) (room : a ≡ false → s .head .used < s .head .rows) (t′ T′ : List ℕ) (te : t′ ≡ T′ ++ X)
         (sz : length T′ ≡ R .cells n) (st : Stamp) (q : Operation Cell) (k : RIs n r st q) (kept : r .retired ≡ readerAt s (p - 1) .retired) where
-      put-r : Rel X L (withReader s (p - 1) r (stepped (s .head) a)) t′ (pick a l (set l (s .head .used) x)) (book p T′ a x st q)
+      put-r : Rel X L (withReader s (p - 1) r (after a opens)) t′ (pick a l (set l (s .head .used) x)) (book p T′ a x st q)
       put-r = let y = added a x room in record {
         table-is = te;
         size-is = sz;
@@ -115,8 +120,8 @@ module _ {Stamp Cell : Type 0} (R : Rules) (B : Telling Stamp Cell) (WIs : ℕ �
           | no e ↦ rw (getD-set-other (s .readers) (p - 1) (j - 1) r blank (omega arith), upd-other (b .stamp) p st j e, upd-other (b .op) p q j e) (A .readers-are j h1 h2)
         ];
         retired-are = λ j h. elim (ℕ-discrete j p) [
-          | yes e ↦ rw (e, retired-own s p r (stepped (s .head) a) p1 (omega (arith, g .sized, g .ok .head-ok .n-high)), kept, ← retired-at s p (omega arith)) (A .retired-are p pn)
-          | no e ↦ retired-other s p r (stepped (s .head) a) p1 j e ∙ A .retired-are j h
+          | yes e ↦ rw (e, retired-own s p r (after a opens) p1 (omega (arith, g .sized, g .ok .head-ok .n-high)), kept, ← retired-at s p (omega arith)) (A .retired-are p pn)
+          | no e ↦ retired-other s p r (after a opens) p1 j e ∙ A .retired-are j h
         ];
       }
 
@@ -152,7 +157,7 @@ module _ {Stamp Cell : Type 0} (R : Rules) (B : Telling Stamp Cell) (WIs : ℕ �
               (sym (S .write-value n (b .table) (b .stamp 0) v m cells))
               (subst (λ (c : Bool). Rel X L (stepWriter R s t l .state) (q .table) (stepWriter R s t l .log) (book 0 (x .table) c (rowOf 2 0 0) (x .stamp) (x .op)))
               (S .open-w n (q .writer) (x .stamp) (x .op) (T .is))
-              (put-w (q .writer) (q .writer .active) (rowOf 2 0 0) (λ _. omega (arith, g .ok .head-ok .room, ap one a)) (q .table) (x .table) (T .table-is) (T .size-is) (x .stamp) (x .op) (T .is)));
+              (put-w (q .writer) (q .writer .active) _ (rowOf 2 0 0) (λ _. writer-room s R _ _ (g .ok) a) (q .table) (x .table) (T .table-is) (T .size-is) (x .stamp) (x .op) (T .is)));
         }
 
     module _ (p : ℕ) (p1 : 1 ≤ p) (pn : p ≤ n) (free : isRetired s p ≡ false) where
@@ -188,7 +193,7 @@ module _ {Stamp Cell : Type 0} (R : Rules) (B : Telling Stamp Cell) (WIs : ℕ �
                 (sym (row-same (q .reader .active) (valueIn (q .reader .result)) (x .value) (λ e. T .value-is (sym still ∙ e)) l (λ y. set l (s .head .used) (rowOf 4 p y))))
                 (subst (λ (c : Bool). Rel X L (stepReader R s t l p .state) (q .table) (pick (q .reader .active) l (set l (s .head .used) (rowOf 4 p (x .value)))) (book p (x .table) c (rowOf 4 p (x .value)) (x .stamp) (x .op)))
                 still
-                (put-r p p1 pn (q .reader) (q .reader .active) (rowOf 4 p (x .value)) (λ _. reader-room s p p1 free pn R _ _ (g .ok) a) (q .table) (x .table) (T .table-is) (T .size-is) (x .stamp) (x .op) (T .is) (W .retired-stays n p r₀ t)));
+                (put-r p p1 pn (q .reader) (q .reader .active) _ (rowOf 4 p (x .value)) (λ _. reader-room s p p1 free pn R _ _ (g .ok) a) (q .table) (x .table) (T .table-is) (T .size-is) (x .stamp) (x .op) (T .is) (W .retired-stays n p r₀ t)));
           }
 
     -- What is asked of a call by processor p.
@@ -206,8 +211,8 @@ module _ {Stamp Cell : Type 0} (R : Rules) (B : Telling Stamp Cell) (WIs : ℕ �
     step-rel p = rw (passes, pick-yes true _ (refused Range s t l) refl)
         (as-processor 0 p _ _ λ _ pn free. eq-two C p 0 _ _ _ _ (λ _. step-w (b .op 0) refl) (λ ne. step-r p (omega arith) pn free (b .op p) refl))
 
-    room-is : leb (s .head .used + openIn s + 2) (s .head .rows) ≡ leb (length (b .rows) + openCount n b + 2) (s .head .rows)
-    room-is = ap (λ (k : ℕ). leb k (s .head .rows)) (omega (arith, A .used-is, open-is))
+    room-is : hasRoom (s .head) ≡ leb (length (b .rows) + openCount n b + 2) (s .head .rows)
+    room-is = ap (λ (k : ℕ). leb k (s .head .rows)) (omega (arith, A .used-is, g .ok .head-ok .opens-is, open-is))
 
     idle-is : (p : ℕ) (q : Operation Cell) → b .op p ≡ q → isOpen (b .op p) ≡ false → b .op p ≡ idle
     idle-is p idle e f = e
@@ -229,18 +234,18 @@ module _ {Stamp Cell : Type 0} (R : Rules) (B : Telling Stamp Cell) (WIs : ℕ �
         accepted : Outcome
         accepted = record { answer = Accepted; state = withWriter s (writerBegins (s .writer) v) (began (s .head)); table = t; log = set l (s .head .used) (rowOf 1 0 v) }
 
-        opens : s .head .used + openIn s + 2 ≤ s .head .rows → s .writer .active ≡ false → R .mayWrite (s .writer) ≡ true
+        opens : s .head .used + s .head .opens + 2 ≤ s .head .rows → s .writer .active ≡ false → R .mayWrite (s .writer) ≡ true
             → Rel X L (accepted .state) t (accepted .log) (begun b 0 1 v .model)
         opens h a q =
             begun-is 0 1 v (accepted .state) (accepted .log)
-            (put-w (writerBegins (s .writer) v) false (rowOf 1 0 v) (λ _. omega arith) t (b .table) (A .table-is) (A .size-is) (b .stamp 0) (open-with v 0 [])
+            (put-w (writerBegins (s .writer) v) false _ (rowOf 1 0 v) (λ _. omega arith) t (b .table) (A .table-is) (A .size-is) (b .stamp 0) (open-with v 0 [])
             (S .begin-w n v (s .writer) (b .stamp 0) (g .ok .head-ok .n-low) (subst (WIs n (s .writer) (b .stamp 0)) (idle-is 0 (b .op 0) refl (sym active-w ∙ a)) (A .writer-is)) q))
 
         -- the book's stamp is spent exactly if the writer may not write
         spent : (y : Bool) → R .mayWrite (s .writer) ≡ y → B .spent (b .stamp 0) ≡ not y
         spent y e = S .spent-is n (s .writer) (b .stamp 0) (b .op 0) (A .writer-is) ∙ ap not e
 
-        may : (y : Bool) → R .mayWrite (s .writer) ≡ y → s .writer .active ≡ false → s .head .used + openIn s + 2 ≤ s .head .rows
+        may : (y : Bool) → R .mayWrite (s .writer) ≡ y → s .writer .active ≡ false → s .head .used + s .head .opens + 2 ≤ s .head .rows
             → C (pick y accepted (refused Spent s t l)) (beginsWrite B b v)
         may true e a h = rw (pick-no (B .spent (b .stamp 0)) (declined Spent b) (begun b 0 1 v) (spent true e)) (record { answer-is = refl; rel = opens h a e })
         may false e a h = rw (pick-yes (B .spent (b .stamp 0)) (declined Spent b) (begun b 0 1 v) (spent false e)) (same Spent)
@@ -254,11 +259,11 @@ module _ {Stamp Cell : Type 0} (R : Rules) (B : Telling Stamp Cell) (WIs : ℕ �
         next : Reader
         next = readerBegins (readerAt s (p - 1))
 
-        opens : 1 ≤ p → p ≤ n → readerAt s (p - 1) .active ≡ false → s .head .used + openIn s + 2 ≤ s .head .rows
+        opens : 1 ≤ p → p ≤ n → readerAt s (p - 1) .active ≡ false → s .head .used + s .head .opens + 2 ≤ s .head .rows
             → Rel X L (withReader s (p - 1) next (began (s .head))) t (set l (s .head .used) (rowOf 3 p 0)) (begun b p 3 0 .model)
         opens p1 pn a h =
             begun-is p 3 0 _ _
-            (put-r p p1 pn next false (rowOf 3 p 0) (λ _. omega arith) t (b .table) (A .table-is) (A .size-is) (b .stamp p) (open-with 0 0 [])
+            (put-r p p1 pn next false _ (rowOf 3 p 0) (λ _. omega arith) t (b .table) (A .table-is) (A .size-is) (b .stamp p) (open-with 0 0 [])
             (S .begin-r n (readerAt s (p - 1)) (b .stamp p) (g .ok .head-ok .n-low)
             (subst (RIs n (readerAt s (p - 1)) (b .stamp p)) (idle-is p (b .op p) refl (sym (active-r p p1 pn) ∙ a)) (A .readers-are p p1 pn))) refl)
 
@@ -269,7 +274,10 @@ module _ {Stamp Cell : Type 0} (R : Rules) (B : Telling Stamp Cell) (WIs : ℕ �
         next : Reader
         next = retires (readerAt s (p - 1))
 
-        gone : 1 ≤ p → p ≤ n → Rel X L (withReader s (p - 1) next (s .head)) t l (withdrawn b p)
+        h′ : Head
+        h′ = freed (s .head) (readerAt s (p - 1) .active)
+
+        gone : 1 ≤ p → p ≤ n → Rel X L (withReader s (p - 1) next h′) t l (withdrawn b p)
         gone p1 pn = record {
           table-is = A .table-is;
           size-is = A .size-is;
@@ -281,8 +289,8 @@ module _ {Stamp Cell : Type 0} (R : Rules) (B : Telling Stamp Cell) (WIs : ℕ �
             | no e ↦ rw (getD-set-other (s .readers) (p - 1) (j - 1) next blank (omega arith)) (A .readers-are j h1 h2)
           ];
           retired-are = λ j h. elim (ℕ-discrete j p) [
-            | yes e ↦ rw (e, upd-same (b .retired) p true) (retired-own s p next (s .head) p1 (omega (arith, g .sized, g .ok .head-ok .n-high)))
-            | no e ↦ rw (upd-other (b .retired) p true j e) (retired-other s p next (s .head) p1 j e ∙ A .retired-are j h)
+            | yes e ↦ rw (e, upd-same (b .retired) p true) (retired-own s p next h′ p1 (omega (arith, g .sized, g .ok .head-ok .n-high)))
+            | no e ↦ rw (upd-other (b .retired) p true j e) (retired-other s p next h′ p1 j e ∙ A .retired-are j h)
           ];
         }
 

@@ -103,7 +103,8 @@ module _ {Stamp Cell : Type 0} (R : Rules) (B : Telling Stamp Cell) (WIs : ℕ �
             rows-low = l3;
             rows-high = l4;
             used-low = omega arith;
-            room = omega (arith, count-nowhere n (λ i. asCounted (readerAt s₀ i) .active) (λ i h. ap (λ (r : Reader). asCounted r .active) (all-alike i (omega arith))));
+            opens-is = omega (arith, count-nowhere n (λ i. asCounted (readerAt s₀ i) .active) (λ i h. ap (λ (r : Reader). asCounted r .active) (all-alike i (omega arith))));
+            room = omega arith;
           };
           writer-ok = W .fresh-writer n fresh;
           readers-ok = λ i h. rw (all-alike i (omega arith)) (W .fresh-reader n);
@@ -169,7 +170,7 @@ module _ {Stamp Cell : Type 0} (R : Rules) (B : Telling Stamp Cell) (WIs : ℕ �
         record {
           cells-beyond = z .beyond;
           rows-beyond = ap (drop 1) (z .log-is) ∙ drop-set-lt 1 l 0 (startRow n v) (omega arith);
-          passes = range-test R _ _ _ (z .runs .good .ok);
+          passes = record { in-range = range-test R _ _ _ (z .runs .good .ok); opens-is = z .runs .good .ok .head-ok .opens-is };
         }
 
 -- The book never gives refusal 4.

@@ -12,7 +12,7 @@ use Rattle.common.specs.Calls.{Call, write, read, step, retire}
 use Rattle.common.specs.Effects.{OneWord, reads, stores, Stand}
 use Rattle.common.specs.declared.State.{State}
 use Rattle.common.specs.Head.{hasRoom}
-use Rattle.common.specs.State.{readerAt, isRetired, openIn}
+use Rattle.common.specs.State.{readerAt, isRetired}
 use Rattle.common.specs.Rules.{Rules, stateOk, InRange}
 use Rattle.common.specs.SetUp.{Outcome}
 use Rattle.common.specs.Register.{beginWriteOf, beginReadOf, stepWriter, stepReader, stepOf, retireOf, callOf}
@@ -60,13 +60,13 @@ module _ (R : Rules) (place : ℕ → ℕ → ℕ → ℕ) (Has : ℕ → ℕ �
   call-stands (write v) =
       pick-ind Out (stateOk R s (length t) (length l)) _ _
       (λ _. pick-ind Out (s .writer .active) _ _ (λ _. same)
-      (λ _. pick-ind Out (hasRoom (s .head) (openIn s)) _ _ (λ _. pick-ind Out (R .mayWrite (s .writer)) _ _ (λ _. same) (λ _. same)) (λ _. same)))
+      (λ _. pick-ind Out (hasRoom (s .head)) _ _ (λ _. pick-ind Out (R .mayWrite (s .writer)) _ _ (λ _. same) (λ _. same)) (λ _. same)))
       (λ _. same)
   call-stands (read q) =
       pick-ind Out (stateOk R s (length t) (length l)) _ _
       (λ _. as-processor Out s t l same same 1 q _ λ q1 _ free.
       pick-ind Out (readerAt s (q - 1) .active) _ _ (λ _. same)
-      (λ _. pick-ind Out (hasRoom (s .head) (openIn s)) _ _ (λ _. (same .0, retired-other s q _ (s .head) q1 p (another q free) ∙ gone)) (λ _. same)))
+      (λ _. pick-ind Out (hasRoom (s .head)) _ _ (λ _. (same .0, retired-other s q _ (s .head) q1 p (another q free) ∙ gone)) (λ _. same)))
       (λ _. same)
   call-stands (step q) =
       pick-ind Out (stateOk R s (length t) (length l)) _ _

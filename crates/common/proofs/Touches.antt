@@ -1,25 +1,24 @@
 -- A call sets at most one cell and one row, and nothing else of its buffers.
 use Prim.Native.Nat.{ℕ, _+_, _-_, _≤_}
-use mathlib.Core.Path.{_≡_, ap}
+use mathlib.Core.Path.{_≡_}
 use mathlib.Core.List.{List}
 use mathlib.Core.Bool.{true, false}
 use native.Mathlib.Omega.{arith}
 use lib.ListN.{length}
-use Rattle.words.specs.Counting.{one}
 use Rattle.words.specs.Row.{rowOf}
 use Rattle.words.proofs.Laws.Choice.{pick-ind, le-ind, eq-ind}
 use Rattle.common.specs.Calls.{Call, write, read, step, retire}
 use Rattle.common.specs.Effects.{as-it-was, one-set, Touches}
 use Rattle.common.specs.declared.Refusal.{Refusal}
 use Rattle.common.specs.declared.State.{State}
-use Rattle.common.specs.State.{readerAt, isRetired, openIn, valueIn}
+use Rattle.common.specs.State.{readerAt, isRetired, valueIn}
 use Rattle.common.specs.Rules.{Rules, stateOk, InRange}
 use Rattle.common.specs.SetUp.{Outcome, refused}
 use Rattle.common.specs.Register.{asProcessor, beginWriteOf, beginReadOf, stepWriter, stepReader, stepOf, retireOf, callOf}
 use Rattle.common.proofs.Effects.{row-or}
 use Rattle.common.proofs.Lawful.{Lawful}
 use Rattle.common.proofs.Asked.{as-processor}
-use Rattle.common.proofs.Range.{test-range, reader-ok, reader-room}
+use Rattle.common.proofs.Range.{test-range, reader-ok, reader-room, writer-room}
 
 module _ (R : Rules) (W : Lawful R) (s : State) (t l : List ℕ) where
   abbrev To : Outcome → Type 0
@@ -39,7 +38,7 @@ module _ (R : Rules) (W : Lawful R) (s : State) (t l : List ℕ) where
   write-touches v =
       pick-ind To (stateOk R s (length t) (length l)) _ _
       (λ _. pick-ind To (s .writer .active) _ _ (λ _. nothing _)
-      (λ _. le-ind To (s .head .used + openIn s + 2) (s .head .rows) _ _
+      (λ _. le-ind To (s .head .used + s .head .opens + 2) (s .head .rows) _ _
       (λ h. pick-ind To (R .mayWrite (s .writer)) _ _ (λ _. record { one-cell = as-it-was; one-row = one-set (s .head .used) _ (omega arith) }) (λ _. nothing _))
       (λ _. nothing _)))
       (λ _. nothing _)
@@ -49,7 +48,7 @@ module _ (R : Rules) (W : Lawful R) (s : State) (t l : List ℕ) where
   read-touches p =
       pick-ind To (stateOk R s (length t) (length l)) _ _
       (λ _. asked 1 p _ λ _ _ _. pick-ind To (readerAt s (p - 1) .active) _ _ (λ _. nothing _)
-      (λ _. le-ind To (s .head .used + openIn s + 2) (s .head .rows) _ _
+      (λ _. le-ind To (s .head .used + s .head .opens + 2) (s .head .rows) _ _
       (λ h. record { one-cell = as-it-was; one-row = one-set (s .head .used) _ (omega arith) }) (λ _. nothing _)))
       (λ _. nothing _)
 
@@ -58,7 +57,7 @@ module _ (R : Rules) (W : Lawful R) (s : State) (t l : List ℕ) where
     unfolding stepWriter
     writer-touches a = record {
       one-cell = W .write-cell n (s .writer) t (k .head-ok .n-low) (k .writer-ok) a;
-      one-row = row-or (s .head .rows) (s .head .used) l (R .writeStep n (s .writer) t .writer .active) (rowOf 2 0 0) (omega (arith, k .head-ok .room, ap one a));
+      one-row = row-or (s .head .rows) (s .head .used) l (R .writeStep n (s .writer) t .writer .active) (rowOf 2 0 0) (writer-room s R _ _ k a);
     }
 
     reader-touches : (p : ℕ) → 1 ≤ p → p ≤ n → isRetired s p ≡ false → readerAt s (p - 1) .active ≡ true → To (stepReader R s t l p)

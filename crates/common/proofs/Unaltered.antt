@@ -1,6 +1,7 @@
--- A refused call alters nothing.
+-- A refused call alters nothing; and every call is refused if the number of open operations is off.
 use Prim.Native.Nat.{ℕ, _-_}
 use mathlib.Core.Path.{_≡_, refl, sym, ap, _∙_}
+use mathlib.Core.Logic.{_≢_}
 use mathlib.Core.Bool.{Bool, true, false}
 use mathlib.Core.List.{List}
 use lib.ListN.{length}
@@ -11,6 +12,7 @@ use Rattle.common.specs.Calls.{Call, write, read, step, retire}
 use Rattle.common.specs.declared.Answer.{Answer}
 use Rattle.common.specs.declared.Answer.the-variants.{Accepted, Moved, Refused}
 use Rattle.common.specs.declared.Refusal.{Refusal}
+use Rattle.common.specs.declared.Refusal.the-variants.{Range}
 use Rattle.common.specs.declared.State.{State}
 use Rattle.common.specs.Effects.{Unaltered}
 use Rattle.common.specs.Head.{hasRoom}
@@ -19,6 +21,7 @@ use Rattle.common.specs.Rules.{Rules, stateOk}
 use Rattle.common.specs.SetUp.{Outcome, refused}
 use Rattle.common.specs.Register.{inRange, asProcessor, beginWriteOf, beginReadOf, stepWriter, stepReader, stepOf, retireOf, callOf}
 use Rattle.common.proofs.Asked.{as-processor}
+use Rattle.common.proofs.Range.{test-range}
 
 abbrev isRefused : Answer → Bool
 isRefused Accepted = false
@@ -45,8 +48,8 @@ module _ (R : Rules) (s : State) (t l : List ℕ) where
   asked least p o h = as-processor Keeps s t l (refuses _) (refuses _) least p o (λ _ _ _. h)
 
   -- question 7, and then o
-  if-room : (o : Outcome) → Keeps o → (r : Refusal) → Keeps (pick (hasRoom (s .head) (openIn s)) o (refused r s t l))
-  if-room o h r = pick-ind Keeps (hasRoom (s .head) (openIn s)) _ _ (λ _. h) (λ _. refuses _)
+  if-room : (o : Outcome) → Keeps o → (r : Refusal) → Keeps (pick (hasRoom (s .head)) o (refused r s t l))
+  if-room o h r = pick-ind Keeps (hasRoom (s .head)) _ _ (λ _. h) (λ _. refuses _)
 
   write-keeps : (v : ℕ) → Keeps (beginWriteOf R s t l v)
   unfolding beginWriteOf
@@ -74,3 +77,19 @@ module _ (R : Rules) (s : State) (t l : List ℕ) where
   call-unaltered (read p) = read-keeps p
   call-unaltered (step p) = step-keeps p
   call-unaltered (retire p) = retire-keeps p
+
+  -- (02) "A state whose number is off is out of range under question 4": by any amount, and whatever the call.
+  module _ (off : s .head .opens ≢ openIn s) where
+    out : stateOk R s (length t) (length l) ≡ false
+    out = at (stateOk R s (length t) (length l)) refl
+      where
+        at : (b : Bool) → stateOk R s (length t) (length l) ≡ b → b ≡ false
+        at true e = absurd (off (test-range R s _ _ e .head-ok .opens-is))
+        at false e = refl
+
+    pub number-off : (c : Call) → callOf R s t l c ≡ refused Range s t l
+    unfolding callOf beginWriteOf beginReadOf stepOf retireOf
+    number-off (write v) = rw out
+    number-off (read p) = rw out
+    number-off (step p) = rw out
+    number-off (retire p) = rw out

@@ -1,5 +1,5 @@
 -- Demand 3, as far as it is the same for both registers.
-use Prim.Native.Nat.{ℕ, _+_, _-_, _^_, _≤_, _<_}
+use Prim.Native.Nat.{ℕ, _+_, _^_, _≤_, _<_}
 use native.Mathlib.Omega.{arith}
 use mathlib.Core.Bool.{true, false}
 use mathlib.Core.Path.{_≡_, refl, sym, subst, ap, _∙_}
@@ -17,20 +17,19 @@ use Rattle.common.specs.declared.Answer.the-variants.{Accepted, Refused}
 use Rattle.common.specs.declared.Refusal.the-variants.{Retired}
 use Rattle.common.specs.declared.Writer.{Writer}
 use Rattle.common.specs.declared.Reader.{Reader}
-use Rattle.common.specs.State.{readerAt, isRetired, asCounted, openIn, retires}
+use Rattle.common.specs.State.{isRetired}
 use Rattle.common.specs.Effects.{Stand}
 use Rattle.common.specs.Rules.{Rules}
 use Rattle.common.specs.SetUp.{setUpOf}
 use Rattle.common.specs.Register.{callOf, Ran, ranFrom}
-use Rattle.common.specs.Book.{Operation, isOpen, Model, Telling, told, freshModel}
+use Rattle.common.specs.Book.{Operation, isOpen, Model, Telling, openCount, told, freshModel}
 use Rattle.common.specs.Whole.{modelOf, still, next, AsBook}
 use Rattle.common.proofs.Lawful.{Lawful, Wired, Simulates}
-use Rattle.common.proofs.Range.{range-test, stands}
+use Rattle.common.proofs.Range.{range-test, reader-open}
 use Rattle.common.proofs.Run.{FromSetUp, from-set-up, kept-fine}
 use Rattle.common.proofs.Formed.{rows-formed}
-use Rattle.common.proofs.Refine.{call-rel}
+use Rattle.common.proofs.Refine.{open-is, call-rel}
 use Rattle.common.proofs.Counts.{out-told, retires-to}
-use Rattle.common.proofs.Keep.{opens-with}
 use Rattle.common.proofs.Effects.{retires-still}
 use Rattle.common.proofs.Stands.{call-stands}
 
@@ -84,19 +83,23 @@ module _ {Stamp Cell : Type 0} (R : Rules) (B : Telling Stamp Cell) (WIs : ℕ �
   unfolding callOf
   quiet p = retires-still R (r .state) (r .table) (r .log) p
 
-  -- A retirement takes the reader's operation out of those that count.
+  -- The number of open operations is the count, and the book's.
+  opens-in-book : ranFrom R n v fresh t l cs .state .head .opens ≡ openCount n (modelOf B n v fresh l cs .model)
+  opens-in-book =
+      start .runs .good .ok .head-ok .opens-is
+      ∙ open-is R B WIs RIs W S _ _ (r .state) (r .table) (r .log) b (start .runs .good) (start .runs .rel) full
+      ∙ ap (λ (k : ℕ). openCount k b) n-is
+
+  -- A retirement takes the reader's operation out of it.
   frees : (p : ℕ) → 1 ≤ p → p ≤ n → b .retired p ≡ false
-      → openIn (next R n v fresh t l cs (retire p) .state) + one (isOpen (b .op p)) ≡ openIn (ranFrom R n v fresh t l cs .state)
+      → next R n v fresh t l cs (retire p) .state .head .opens + one (isOpen (b .op p)) ≡ ranFrom R n v fresh t l cs .state .head .opens
   frees p p1 pn free =
       let s = r .state in
-      let i = p - 1 in
-      let A = start .runs .rel in
       let g = start .runs .good in
       let h : p ≤ r .state .head .n = omega (arith, n-is) in
       let out = retired-are p pn ∙ free in
-      let was : asCounted (readerAt s i) .active ≡ isOpen (b .op p) = ap (λ (x : Reader). x .active) (stands s p p1 out) ∙ S .open-r _ _ _ _ (A .readers-are p p1 h) in
-      rw (retires-to R s (r .table) (r .log) p (range-test R _ _ _ (g .ok)) p1 h out, ← was)
-      (omega (arith, opens-with R s _ _ g i (retires (readerAt s i)) (omega arith) (s .head) refl))
+      rw (retires-to R s (r .table) (r .log) p (range-test R _ _ _ (g .ok)) p1 h out, ← S .open-r _ _ _ _ (start .runs .rel .readers-are p p1 h))
+      (omega (arith, reader-open s p p1 out h R _ _ (g .ok)))
 
   module _ (place : ℕ → ℕ → ℕ → ℕ) (Has : ℕ → ℕ → ℕ → Type 0) (D : Wired R place Has) where
     remains : (p : ℕ) → p ≤ n → b .retired p ≡ true → (c : Call)
@@ -118,6 +121,8 @@ module _ {Stamp Cell : Type 0} (R : Rules) (B : Telling Stamp Cell) (WIs : ℕ �
           rows-are = rw (A .log-is, A .used-is) (take-at (b .rows) _ _ refl);
           retired-are = retired-are;
           moves-nothing = quiet;
+          opens-is = start .runs .good .ok .head-ok .opens-is;
+          opens-in-book = opens-in-book;
           frees = frees;
           out = λ p p1 pn gone. record { thirteen = out-13 p p1 pn gone; for-good = λ c. remains p pn gone c .1 };
           cells-beyond = rw (A .table-is) (drop-at (b .table) _ (R .cells n) size ∙ sym (start .beyond));

@@ -5,6 +5,7 @@ use mathlib.Core.List.{List}
 use mathlib.Core.Bool.{true}
 use lib.ListN.{length, getD, set, drop}
 use Rattle.common.specs.declared.State.{State}
+use Rattle.common.specs.State.{openIn}
 use Rattle.common.specs.Rules.{Rules, stateOk}
 use Rattle.common.specs.SetUp.{Outcome}
 
@@ -39,8 +40,15 @@ pub record Touches (R : Rules) (s : State) (t l : List ℕ) (o : Outcome) : Type
   pub one-cell : AtMostOne (R .cells (s .head .n)) t (o .table)
   pub one-row : AtMostOne (s .head .rows) l (o .log)
 
--- set-up of n readers: "Set-up writes row 0 only", and its cells. "The fresh state passes 4 with its table and log"
+-- what a set-up that is accepted leaves, and a call on a state that passed question 4
+pub record Passes (R : Rules) (o : Outcome) : Type 0 where
+  -- "The fresh state passes 4 with its table and log, and a state that passed 4 passes it again after the call."
+  pub in-range : stateOk R (o .state) (length (o .table)) (length (o .log)) ≡ true
+  -- (02) "it equals the count after set-up and after each call that passes question 4"
+  pub opens-is : o .state .head .opens ≡ openIn (o .state)
+
+-- set-up of n readers: "Set-up writes row 0 only", and its cells
 pub record SetsUp (R : Rules) (n : ℕ) (t l : List ℕ) (o : Outcome) : Type 0 where
   pub cells-beyond : drop (R .cells n) (o .table) ≡ drop (R .cells n) t
   pub rows-beyond : drop 1 (o .log) ≡ drop 1 l
-  pub passes : stateOk R (o .state) (length (o .table)) (length (o .log)) ≡ true
+  pub passes : Passes R o

@@ -11,7 +11,7 @@ use Rattle.common.specs.declared.Answer.the-variants.{Accepted, Moved}
 use Rattle.common.specs.declared.Refusal.the-variants.{Range, Processor, Retired, Busy, Full, Idle, Spent}
 use Rattle.common.specs.Calls.{Call, write, read, step, retire}
 use Rattle.common.specs.Head.{isProcessor, hasRoom, began, stepped}
-use Rattle.common.specs.State.{readerAt, isRetired, openIn, withWriter, withReader, writerBegins, readerBegins, retires, valueIn}
+use Rattle.common.specs.State.{readerAt, isRetired, withWriter, withReader, writerBegins, readerBegins, withRetired, valueIn}
 use Rattle.common.specs.Rules.{Rules, stateOk}
 use Rattle.common.specs.SetUp.{Outcome, refused, setUpOf}
 
@@ -24,7 +24,7 @@ asProcessor s t l least p o =
 abbrev pub openRead : State → List ℕ → List ℕ → ℕ → Outcome
 openRead s t l p =
     pick (readerAt s (p - 1) .active) (refused Busy s t l)
-    (pick (hasRoom (s .head) (openIn s))
+    (pick (hasRoom (s .head))
     (record {
       answer = Accepted;
       state = withReader s (p - 1) (readerBegins (readerAt s (p - 1))) (began (s .head));
@@ -33,9 +33,9 @@ openRead s t l p =
     })
     (refused Full s t l))
 
--- reader p is retired: it is in the set, and nothing else changes
+-- reader p is retired: it is in the set, its operation counts as open no longer, and nothing else changes
 abbrev pub retiring : State → List ℕ → List ℕ → ℕ → Outcome
-retiring s t l p = record { answer = Accepted; state = withReader s (p - 1) (retires (readerAt s (p - 1))) (s .head); table = t; log = l }
+retiring s t l p = record { answer = Accepted; state = withRetired s p; table = t; log = l }
 
 module _ (R : Rules) where
   -- question 4, and then o
@@ -48,7 +48,7 @@ module _ (R : Rules) where
   beginWriteOf s t l v =
       inRange s t l
       (pick (s .writer .active) (refused Busy s t l)
-      (pick (hasRoom (s .head) (openIn s))
+      (pick (hasRoom (s .head))
       (pick (R .mayWrite (s .writer))
       (record {
         answer = Accepted;

@@ -54,7 +54,7 @@ freshReader = record {
 
 abbrev pub freshState : Bool → ℕ → ℕ → ℕ → State
 freshState counted n fresh rows = record {
-  head = record { counted = counted; n = n; rows = rows; used = 1 };
+  head = record { counted = counted; opens = 0; n = n; rows = rows; used = 1 };
   writer = freshWriter fresh;
   readers = replicate 16 freshReader;
 }

@@ -9,6 +9,7 @@ use Rattle.common.specs.declared.Head.{Head}
 use Rattle.common.specs.declared.Writer.{Writer}
 use Rattle.common.specs.declared.Reader.{Reader}
 use Rattle.common.specs.declared.State.{State}
+use Rattle.common.specs.Head.{freed}
 
 -- what an array of readers gives past its end; no processor stands there
 abbrev pub blank : Reader
@@ -103,6 +104,10 @@ retires r = record {
   found = r .found;
   result = r .result;
 }
+
+-- the state with reader p retired: its operation counts as open no longer
+abbrev pub withRetired : State → ℕ → State
+withRetired s p = let r = readerAt s (p - 1) in withReader s (p - 1) (retires r) (freed (s .head) (r .active))
 
 -- the reading in a cell's word: its upper 32 bits, in both registers
 abbrev pub valueIn : ℕ → ℕ

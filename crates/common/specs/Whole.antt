@@ -18,7 +18,7 @@ use Rattle.common.specs.State.{isRetired, openIn}
 use Rattle.common.specs.Rules.{Rules, stateOk}
 use Rattle.common.specs.SetUp.{Outcome, setUpOf}
 use Rattle.common.specs.Register.{callOf, Ran, ranFrom}
-use Rattle.common.specs.Book.{Telling, Model, isOpen, told, Kept, kept, freshModel}
+use Rattle.common.specs.Book.{Telling, Model, isOpen, openCount, told, Kept, kept, freshModel}
 
 module _ {Stamp Cell : Type 0} (B : Telling Stamp Cell) (n v fresh : ℕ) (l : List ℕ) (cs : List Call) where
   -- the book of a list: "fed n, the start reading, the log's length and the calls"
@@ -59,9 +59,12 @@ module _ {Stamp Cell : Type 0} (R : Rules) (B : Telling Stamp Cell) (n v fresh :
     pub out : (p : ℕ) → 1 ≤ p → p ≤ n → model .retired p ≡ true → Out p
     -- (02) "Its cells remain just as they stand", "and adds no row"
     pub moves-nothing : (p : ℕ) → (next R n v fresh t l cs (retire p) .table ≡ ran .table) × (next R n v fresh t l cs (retire p) .log ≡ ran .log)
-    -- (02) "An operation it had open .. stops counting as open in questions 4 and 7": a retirement takes it out of those that count
+    -- (02) "it equals the count after set-up and after each call that passes question 4", in the state and in the book
+    pub opens-is : ran .state .head .opens ≡ openIn (ran .state)
+    pub opens-in-book : ran .state .head .opens ≡ openCount n model
+    -- (02) "An operation it had open .. stops counting as open in questions 4 and 7": a retirement takes it out of the number
     pub frees : (p : ℕ) → 1 ≤ p → p ≤ n → model .retired p ≡ false
-        → openIn (next R n v fresh t l cs (retire p) .state) + one (isOpen (model .op p)) ≡ openIn (ran .state)
+        → next R n v fresh t l cs (retire p) .state .head .opens + one (isOpen (model .op p)) ≡ ran .state .head .opens
     -- "every cell and row beyond is as set-up left it."
     pub cells-beyond : drop (R .cells n) (ran .table) ≡ drop (R .cells n) (setUpOf R n v fresh t l .table)
     pub rows-beyond : drop (ran .state .head .used) (ran .log) ≡ drop (ran .state .head .used) (setUpOf R n v fresh t l .log)

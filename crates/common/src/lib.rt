@@ -27,9 +27,11 @@ pub enum Answer {
     Refused(Refusal),
 }
 
-// The head of a state: whether it is the counted register's, the number of readers, the log's length and its used rows.
+// The head of a state: whether it is the counted register's, the number of open operations, those of retired readers left out, the number
+// of readers, the log's length and its used rows. The number of open operations is second since there it makes the state no larger.
 pub struct Head {
     pub counted: bool,
+    pub opens: u8,
     pub n: u32,
     pub rows: usize,
     pub used: usize,

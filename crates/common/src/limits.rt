@@ -14,19 +14,22 @@ pub fn count_one(active: bool) -> usize
     0
 }
 
-// Whether a head is in range, where so many cells are needed and so many operations are open, with a table and a log of these lengths.
-pub fn head_ok(need: usize, h: Head, opens: usize, cells: usize, log: usize) -> bool
-    ensures { λ r. ⌜ r ≡ headOk need h opens cells log ⌝ }
+// Whether a head is in range, where so many cells are needed and so many operations are open by count, with a table and a log of these
+// lengths.
+pub fn head_ok(need: usize, h: Head, count: usize, cells: usize, log: usize) -> bool
+    ensures { λ r. ⌜ r ≡ headOk need h count cells log ⌝ }
 {
     let used = h.used;
     let rows = h.rows;
-    if (used <= 4096) & (opens <= 4096) {
+    let opens = h.opens as usize;
+    if used <= 4096 {
         return (1 <= h.n)
             & ((h.n <= 16)
                 & ((need <= cells)
                     & ((log == rows)
                         & ((3 <= rows)
-                            & ((rows <= 4096) & ((1 <= used) & (used + opens <= rows)))))));
+                            & ((rows <= 4096)
+                                & ((1 <= used) & ((opens == count) & (used + opens <= rows))))))));
     }
     false
 }
@@ -39,8 +42,8 @@ pub fn is_processor(h: Head, least: u32, p: u32) -> bool
 }
 
 // Whether the free rows are at least the open operations and two.
-pub fn has_room(h: Head, opens: usize) -> bool
-    ensures { λ r. ⌜ r ≡ hasRoom h opens ⌝ }
+pub fn has_room(h: Head) -> bool
+    ensures { λ r. ⌜ r ≡ hasRoom h ⌝ }
 {
     let used = h.used;
     let rows = h.rows;
@@ -48,6 +51,7 @@ pub fn has_room(h: Head, opens: usize) -> bool
         return false;
     }
     let free = rows - used;
+    let opens = h.opens as usize;
     if free < opens {
         return false;
     }

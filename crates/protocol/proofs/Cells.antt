@@ -21,7 +21,7 @@ use Rattle.common.specs.declared.Reader.{Reader}
 use Rattle.common.specs.declared.State.{State}
 use Rattle.common.specs.declared.Answer.the-variants.{Accepted}
 use Rattle.common.specs.Rules.{WriteStep, ReadStep, stateOk, InRange}
-use Rattle.common.specs.State.{readerAt, openIn}
+use Rattle.common.specs.State.{readerAt}
 use Rattle.common.specs.SetUp.{Outcome, setUpOf}
 use Rattle.common.specs.Head.{hasRoom}
 use Rattle.common.specs.Register.{beginWriteOf, beginReadOf, stepWriter, stepReader, stepOf, retireOf, callOf, runOf, ranFrom}
@@ -122,14 +122,14 @@ module _ (s : State) (t l : List ℕ) (k : CellsKept (s .head .n) t) where
   unfolding beginWriteOf
   begin-write-keeps v =
       pick-ind Keeps (stateOk ticketRules s (length t) (length l)) _ _
-      (λ _. pick-ind Keeps (s .writer .active) _ _ (λ _. k) (λ _. pick-ind Keeps (hasRoom (s .head) (openIn s)) _ _ (λ _. k) (λ _. k))) (λ _. k)
+      (λ _. pick-ind Keeps (s .writer .active) _ _ (λ _. k) (λ _. pick-ind Keeps (hasRoom (s .head)) _ _ (λ _. k) (λ _. k))) (λ _. k)
 
   begin-read-keeps : (p : ℕ) → Keeps (beginReadOf ticketRules s t l p)
   unfolding beginReadOf
   begin-read-keeps p =
       pick-ind Keeps (stateOk ticketRules s (length t) (length l)) _ _
       (λ _. as-processor Keeps s t l k k 1 p _ λ _ _ _.
-      pick-ind Keeps (readerAt s (p - 1) .active) _ _ (λ _. k) (λ _. pick-ind Keeps (hasRoom (s .head) (openIn s)) _ _ (λ _. k) (λ _. k)))
+      pick-ind Keeps (readerAt s (p - 1) .active) _ _ (λ _. k) (λ _. pick-ind Keeps (hasRoom (s .head)) _ _ (λ _. k) (λ _. k)))
       (λ _. k)
 
   writer-keeps : InRange ticketRules s (length t) (length l) → s .writer .active ≡ true → Keeps (stepWriter ticketRules s t l)

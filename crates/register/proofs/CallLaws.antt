@@ -1,6 +1,6 @@
 -- What a state in range gives the calls, and the calls' cases as the code takes them, for any rules.
 use Prim.Native.Nat.{ℕ, _+_, _-_, _≤_, _<_}
-use mathlib.Core.Path.{_≡_, refl, sym, ap, subst, _∙_}
+use mathlib.Core.Path.{_≡_, refl, ap}
 use mathlib.Core.Logic.{_≢_}
 use mathlib.Core.List.{List, _++_}
 use mathlib.Core.Bool.{Bool, true, false, _&&_}
@@ -10,6 +10,7 @@ use lib.Dec.{leb}
 use borrow.Author.Tests.{leb-true, le-leb, lt-leb, eq-eqb, ne-eqb}
 use Rattle.words.specs.Counting.{one}
 use Rattle.words.specs.Row.{rowOf}
+use Rattle.words.proofs.Laws.Counting.{one-low, count-low}
 use Rattle.common.specs.declared.Writer.{Writer}
 use Rattle.common.specs.declared.Reader.{Reader}
 use Rattle.common.specs.declared.State.{State}
@@ -18,12 +19,12 @@ use Rattle.common.specs.declared.Answer.the-variants.{Accepted, Moved}
 use Rattle.common.specs.declared.Refusal.{Refusal}
 use Rattle.common.specs.declared.Refusal.the-variants.{Readers, Cells, Rows, Range, Busy, Full, Idle, Spent}
 use Rattle.common.specs.Answers.{reply}
-use Rattle.common.specs.Head.{hasRoom, began}
-use Rattle.common.specs.State.{readerAt, isRetired, openIn, withWriter, withReader, writerBegins, readerBegins, valueIn}
+use Rattle.common.specs.Head.{hasRoom, began, ended}
+use Rattle.common.specs.State.{readerAt, isRetired, asCounted, withWriter, withReader, writerBegins, readerBegins, valueIn}
 use Rattle.common.specs.Rules.{Rules, stateOk, InRange}
 use Rattle.common.specs.SetUp.{Outcome, refused, freshState, startRow, noState, setUpOf}
 use Rattle.common.specs.Register.{beginWriteOf, openRead, beginReadOf, stepWriter, stepReader, stepOpen, stepOf, retiring, retireOf}
-use Rattle.common.proofs.Range.{test-range, reader-room}
+use Rattle.common.proofs.Range.{test-range, reader-open, reader-room, writer-open, writer-room}
 use Rattle.register.specs.declared.calls.Called.{Called}
 use Rattle.register.specs.declared.asked.Asked.{Asked}
 use Rattle.register.specs.declared.asked.Asked.the-variants.{Yes, No}
@@ -47,23 +48,35 @@ many-readers R s cells log h = at (stateOk R s cells log) refl
     at false e = refl
     at true e = absurd (omega (arith, test-range R s cells log e .head-ok .n-high))
 
--- Question 7.
-module _ (s : State) where
-  pub room-told : (opens : ℕ) (r b : Bool) → opens ≡ openIn s → r ≡ hasRoom (s .head) opens → r ≡ b → hasRoom (s .head) (openIn s) ≡ b
-  room-told opens r b e f g = subst (λ (m : ℕ). hasRoom (s .head) m ≡ b) e (sym f ∙ g)
-
-  room-low : hasRoom (s .head) (openIn s) ≡ true → s .head .used + openIn s + 2 ≤ s .head .rows
-  room-low e = leb-true (s .head .used + openIn s + 2) (s .head .rows) e
-
 module _ (R : Rules) (s : State) (cells log : ℕ) (k : InRange R s cells log) where
   pub table-in : TableOk R (s .head .n) cells
   table-in = record { n-low = k .head-ok .n-low; n-high = k .head-ok .n-high; cells-are = k .head-ok .cells-are }
 
-  pub begin-row : hasRoom (s .head) (openIn s) ≡ true → s .head .used < log
-  begin-row e = omega (arith, room-low s e, k .head-ok .log-is)
+  -- Rows and open operations are few.
+  pub few-rows : s .head .used ≤ 4096
+  few-rows = omega (arith, k .head-ok .room, k .head-ok .rows-high)
+
+  pub few-open : s .head .opens ≤ 17
+  few-open = omega (
+    arith,
+    k .head-ok .opens-is,
+    k .head-ok .n-high,
+    one-low (s .writer .active),
+    count-low (s .head .n) (λ i. asCounted (readerAt s i) .active),
+  )
+
+  pub begin-row : hasRoom (s .head) ≡ true → s .head .used < log
+  begin-row e = omega (arith, leb-true (s .head .used + s .head .opens + 2) (s .head .rows) e, k .head-ok .log-is)
 
   pub write-row : s .writer .active ≡ true → s .head .used < log
-  write-row a = omega (arith, k .head-ok .room, k .head-ok .log-is, ap one a)
+  write-row a = omega (arith, writer-room s R cells log k a, k .head-ok .log-is)
+
+  -- An open operation is one of those counted.
+  pub write-counts : s .writer .active ≡ true → 1 ≤ s .head .opens
+  write-counts a = omega (arith, writer-open s R cells log k, ap one a)
+
+  pub read-counts : (p : ℕ) → 1 ≤ p → p ≤ s .head .n → isRetired s p ≡ false → readerAt s (p - 1) .active ≡ true → 1 ≤ s .head .opens
+  read-counts p p1 pn free a = omega (arith, reader-open s p p1 free pn R cells log k, ap one a)
 
   pub read-row : (p : ℕ) → 1 ≤ p → p ≤ s .head .n → isRetired s p ≡ false → readerAt s (p - 1) .active ≡ true → s .head .used < log
   read-row p p1 pn free a = omega (arith, reader-room s p p1 free pn R cells log k a, k .head-ok .log-is)
@@ -74,10 +87,10 @@ module _ (s : State) (t l : List ℕ) (p : ℕ) where
   read-busy a = rw a
 
   module _ (a : readerAt s (p - 1) .active ≡ false) where
-    pub read-full : hasRoom (s .head) (openIn s) ≡ false → refused Full s t l ≡ openRead s t l p
+    pub read-full : hasRoom (s .head) ≡ false → refused Full s t l ≡ openRead s t l p
     read-full h = rw (a, h)
 
-    pub read-begins : hasRoom (s .head) (openIn s) ≡ true
+    pub read-begins : hasRoom (s .head) ≡ true
         → record {
           answer = Accepted;
           state = withReader s (p - 1) (readerBegins (readerAt s (p - 1))) (began (s .head));
@@ -98,7 +111,7 @@ module _ (R : Rules) (s : State) (t l : List ℕ) where
     pub write-ends : q .active ≡ false
         → record {
           answer = Moved (s .writer .moved + 1);
-          state = withWriter s q (began (s .head));
+          state = withWriter s q (ended (s .head));
           table = t′;
           log = set l (s .head .used) (rowOf 2 0 0);
         }
@@ -117,7 +130,7 @@ module _ (R : Rules) (s : State) (t l : List ℕ) where
     pub read-ends : q .active ≡ false
         → record {
           answer = Moved (readerAt s (p - 1) .moved + 1);
-          state = withReader s (p - 1) q (began (s .head));
+          state = withReader s (p - 1) q (ended (s .head));
           table = t′;
           log = set l (s .head .used) (rowOf 4 p (valueIn (q .result)));
         }
@@ -129,7 +142,7 @@ module _ (R : Rules) (s : State) (t l : List ℕ) where
   ok = stateOk R s (length t) (length l)
 
   abbrev room : Bool
-  room = hasRoom (s .head) (openIn s)
+  room = hasRoom (s .head)
 
   -- Begin a write.
   module _ (v : ℕ) where

@@ -213,6 +213,8 @@ module _ (R : Rules) (n v fresh : ℕ) (t l words places : List ℕ) where
           used-is = w .used-is;
           rows-are = w .rows-are;
           retired-are = w .retired-are;
+          opens-is = w .opens-is;
+          opens-in-book = w .opens-in-book;
           cells-beyond = w .cells-beyond;
           rows-beyond = w .rows-beyond;
           ordered = subst (λ (rows : List ℕ). (o : List ℕ) × Orders rows o) (sym (w .rows-are)) (w .ordered);

@@ -8,13 +8,13 @@ use Rattle.words.specs.Choice.{pick}
 use Rattle.history.specs.Bands.{NoBands}
 use Rattle.history.specs.Linearization.{Orders, NeverOlder}
 use Rattle.common.specs.declared.State.{State}
-use Rattle.common.specs.State.{isRetired}
+use Rattle.common.specs.State.{isRetired, openIn}
 use Rattle.common.specs.Calls.{Call}
 use Rattle.common.specs.CallWords.{answerWord, callsIn}
 use Rattle.common.specs.Rules.{Rules}
 use Rattle.common.specs.SetUp.{setUpOf}
 use Rattle.common.specs.Register.{runOf}
-use Rattle.common.specs.Book.{Telling}
+use Rattle.common.specs.Book.{Telling, openCount}
 use Rattle.common.specs.Whole.{modelOf}
 use Rattle.register.specs.declared.run.Made.{Made}
 
@@ -61,6 +61,9 @@ module _ {Stamp Cell : Type 0} (R : Rules) (B : Telling Stamp Cell) (W : List Ca
     pub rows-are : take (m .state .head .used) (m .log) ≡ modelOf B n v fresh l (callsIn words places) .model .rows
     -- (02) "the book keeps that set": the state's retired readers are the book's
     pub retired-are : (p : ℕ) → p ≤ n → isRetired (m .state) p ≡ modelOf B n v fresh l (callsIn words places) .model .retired p
+    -- (02) "it equals the count after set-up and after each call that passes question 4", in the state and in the book
+    pub opens-is : m .state .head .opens ≡ openIn (m .state)
+    pub opens-in-book : m .state .head .opens ≡ openCount n (modelOf B n v fresh l (callsIn words places) .model)
     -- "every cell and row beyond is as set-up left it"
     pub cells-beyond : drop (R .cells n) (m .table) ≡ drop (R .cells n) (setUpOf R n v fresh t l .table)
     pub rows-beyond : drop (m .state .head .used) (m .log) ≡ drop (m .state .head .used) (setUpOf R n v fresh t l .log)

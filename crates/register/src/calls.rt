@@ -4,11 +4,11 @@ use super::asked::ask;
 use super::kinds::may_write;
 use super::kinds::read_step;
 use super::kinds::write_step;
-use super::range::open_in;
 use super::range::state_ok;
 use common::Answer;
 use common::Refusal;
 use common::State;
+use common::limits::count_one;
 use common::limits::has_room;
 use common::rows::row_of;
 use reader::looks::value_in;
@@ -19,8 +19,9 @@ ghost use mathlib.Core.Path.{_≡_};
 ghost use mathlib.Core.Bool.{true, false};
 ghost use Prim.Native.Nat.{_-_, _≤_};
 ghost use lib.ListN.{length};
+ghost use Rattle.words.specs.Counting.{one};
 ghost use Rattle.common.specs.Answers.{reply};
-ghost use Rattle.common.specs.State.{readerAt, isRetired, withReader, retires};
+ghost use Rattle.common.specs.State.{readerAt, isRetired, withRetired};
 ghost use Rattle.common.specs.Rules.{InRange};
 ghost use Rattle.common.specs.Register.{beginWriteOf, openRead, beginReadOf, stepWriter, stepReader, stepOpen, stepOf, retireOf};
 ghost use Rattle.register.specs.Rules.{rulesOf};
@@ -54,7 +55,7 @@ pub fn begin_write(s: State, table: &mut [u64], log: &mut [u64], value: u32) -> 
             return refuse(s, Refusal::Busy);
         }
         let h = s.head;
-        if has_room(h, open_in(s)) {
+        if has_room(h) {
             if may_write(h.counted, w) {
                 let used = h.used;
                 log[used] = row_of(1, 0, value);
@@ -62,6 +63,8 @@ pub fn begin_write(s: State, table: &mut [u64], log: &mut [u64], value: u32) -> 
                 let mut state = s;
                 let more = used + 1;
                 state.head.used = more;
+                let opens = h.opens + 1;
+                state.head.opens = opens;
                 state.writer = next;
                 return Called {
                     answer: Answer::Accepted,
@@ -86,13 +89,15 @@ fn open_read(s: State, table: &mut [u64], log: &mut [u64], p: u32) -> Called
     if r.active {
         return refuse(s, Refusal::Busy);
     }
-    if has_room(h, open_in(s)) {
+    if has_room(h) {
         let used = h.used;
         log[used] = row_of(3, p as u8, 0);
         let next = open_reader(r);
         let mut state = s;
         let more = used + 1;
         state.head.used = more;
+        let opens = h.opens + 1;
+        state.head.opens = opens;
         state.readers[i] = next;
         return Called {
             answer: Answer::Accepted,
@@ -135,6 +140,8 @@ fn step_writer(s: State, table: &mut [u64], log: &mut [u64]) -> Called
     log[used] = row_of(2, 0, 0);
     let more = used + 1;
     state.head.used = more;
+    let opens = h.opens - 1;
+    state.head.opens = opens;
     Called {
         answer: answer,
         state: state,
@@ -163,6 +170,8 @@ fn step_reader(s: State, table: &mut [u64], log: &mut [u64], p: u32) -> Called
     log[used] = row_of(4, p as u8, value_in(next.result));
     let more = used + 1;
     state.head.used = more;
+    let opens = h.opens - 1;
+    state.head.opens = opens;
     Called {
         answer: answer,
         state: state,
@@ -201,14 +210,18 @@ pub fn step(s: State, table: &mut [u64], log: &mut [u64], p: u32) -> Called
     }
 }
 
-// Reader p is in the set of the retired.
+// Reader p is in the set of the retired, and its operation counts as open no longer.
 fn withdraw(s: State, p: u32) -> Called
-    requires { ⌜ (1 ≤ p) × (p ≤ 16) ⌝ }
-    ensures { λ r. ⌜ (r .answer ≡ Answer.Accepted) × (r .state ≡ withReader s (p - 1) (retires (readerAt s (p - 1))) (s .head)) ⌝ }
+    requires { ⌜ (1 ≤ p) × (p ≤ 16) × (one (readerAt s (p - 1) .active) ≤ s .head .opens) ⌝ }
+    ensures { λ r. ⌜ (r .answer ≡ Answer.Accepted) × (r .state ≡ withRetired s p) ⌝ }
 {
     let i = p as usize - 1;
-    let next = retire_reader(s.readers[i]);
+    let r = s.readers[i];
+    let next = retire_reader(r);
+    let h = s.head;
+    let opens = h.opens - count_one(r.active) as u8;
     let mut state = s;
+    state.head.opens = opens;
     state.readers[i] = next;
     Called {
         answer: Answer::Accepted,

@@ -46,7 +46,7 @@ fn open_readers(s: State) -> usize
 }
 
 // The open operations.
-pub(crate) fn open_in(s: State) -> usize
+fn open_in(s: State) -> usize
     requires { ⌜ s .head .n ≤ 16 ⌝ }
     ensures { λ m. ⌜ m ≡ openIn s ⌝ }
 {

@@ -49,6 +49,7 @@ fn fresh_state(counted: bool, n: u32, fresh: u32, rows: usize) -> State
 {
     let head = Head {
         counted: counted,
+        opens: 0,
         n: n,
         rows: rows,
         used: 1,

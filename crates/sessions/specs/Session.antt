@@ -16,12 +16,14 @@ use Rattle.history.specs.Chosen.{chosen, readsFrom, regular, uninverted}
 use Rattle.judge.specs.Answer.{answerOf, orderOf}
 use Rattle.common.specs.declared.Answer.{Answer}
 use Rattle.common.specs.declared.Writer.{Writer}
+use Rattle.common.specs.declared.State.{State}
 use Rattle.common.specs.Answers.{numberOf, subStepOf}
 use Rattle.common.specs.Calls.{Call}
+use Rattle.common.specs.Head.{headWith}
 use Rattle.common.specs.Rules.{Rules}
 use Rattle.common.specs.SetUp.{setUpOf}
-use Rattle.common.specs.Register.{ranFrom}
-use Rattle.common.specs.Book.{Telling, freshModel, kept}
+use Rattle.common.specs.Register.{callOf, ranFrom}
+use Rattle.common.specs.Book.{Telling, Model, openCount, told as toldInBook, freshModel, kept}
 use Rattle.protocol.specs.Tickets.{withTicket}
 use Rattle.protocol.specs.Write.{ticketOf}
 use Rattle.protocol.specs.Rules.{ticketRules}
@@ -30,6 +32,7 @@ use Rattle.counted.specs.declared.Cell.{Cell as CountedCell}
 use Rattle.counted.specs.Cell.{packCell as packCounted, unpackCell as unpackCounted}
 use Rattle.counted.specs.Rules.{countedRules}
 use Rattle.counted.specs.Reference.{book as countedBook}
+use Rattle.sessions.specs.Lent.{lent, paper}
 
 abbrev pub stamp : ℕ → ℕ → Stamp
 stamp c p = record { cur = c; prev = p }
@@ -58,6 +61,10 @@ pub data Session : Type 0 where
   denied : (g : Register) (n v : ℕ) (table log : List ℕ) (number : ℕ) → Session
   -- an accepted one and the calls behind it; their answers as numbers, and the whole table and log after the last
   run : (g : Register) (n v : ℕ) (table log : List ℕ) (calls : List Call) (answers cells rows : List ℕ) → Session
+  -- the number of open operations behind an accepted set-up, with a log of so many rows, and behind each of the calls
+  opens : (g : Register) (n rows : ℕ) (calls : List Call) (numbers : List ℕ) → Session
+  -- the state behind the calls, handed on with this number of open operations: the answer to one call more
+  handed : (g : Register) (n rows : ℕ) (calls : List Call) (number : ℕ) (last : Call) (answer : ℕ) → Session
 
 abbrev sameCell : Cell → Cell → Bool
 sameCell a b = eqb (a .value) (b .value) && (same (a .stamp) (b .stamp) && same (a .announced) (b .announced))
@@ -124,6 +131,24 @@ abbrev asModelled : Register → ℕ → ℕ → ℕ → ℕ → List Call → L
 asModelled tickets = inBook ticketBook tickets
 asModelled (counting fresh) = inBook countedBook (counting fresh)
 
+-- the number of open operations, from a state on, behind each call
+abbrev opensAfter : Rules → State → List ℕ → List ℕ → List Call → List ℕ
+opensAfter R s t l [] = s .head .opens ∷ []
+opensAfter R s t l (c ∷ rest) = let o = callOf R s t l c in s .head .opens ∷ opensAfter R (o .state) (o .table) (o .log) rest
+
+-- the same as the book counts them, with a log of so many rows
+abbrev countsAfter : {Stamp Cell : Type 0} → Telling Stamp Cell → ℕ → ℕ → Model Stamp Cell → List Call → List ℕ
+countsAfter B n rows b [] = openCount n b ∷ []
+countsAfter B n rows b (c ∷ rest) = openCount n b ∷ countsAfter B n rows (toldInBook B n rows b c .model) rest
+
+abbrev countsFor : Register → ℕ → ℕ → List Call → List ℕ
+countsFor tickets n rows calls = countsAfter ticketBook n rows (freshModel ticketBook n 7 0) calls
+countsFor (counting fresh) n rows calls = countsAfter countedBook n rows (freshModel countedBook n 7 fresh) calls
+
+-- the state with another number of open operations
+abbrev withOpens : State → ℕ → State
+withOpens s k = record { head = headWith (s .head) (s .head .used) k; writer = s .writer; readers = s .readers }
+
 -- whether it comes out so, both ways where there are two
 unfoldable pub holds : Session → Bool
 holds (cell c w) = eqb (packCell c) w && sameCell (unpackCell w) c
@@ -145,6 +170,14 @@ holds (run g n v t l calls answers cells rows) =
     let used = ranFrom (rulesFor g) n v (firstOf g) t l calls .state .head .used in
     eqb (told (setUpOf (rulesFor g) n v (firstOf g) t l .answer)) 0
     && (asDefined g n v t l calls answers cells rows && asModelled g n v (length l) used calls answers cells rows)
+holds (opens g n rows calls numbers) =
+    let R = rulesFor g in
+    let o = setUpOf R n 7 (firstOf g) (lent (R .cells n)) (paper rows) in
+    sameList (opensAfter R (o .state) (o .table) (o .log) calls) numbers && sameList (countsFor g n rows calls) numbers
+holds (handed g n rows calls number last answer) =
+    let R = rulesFor g in
+    let r = ranFrom R n 7 (firstOf g) (lent (R .cells n)) (paper rows) calls in
+    eqb (told (callOf R (withOpens (r .state) number) (r .table) (r .log) last .answer)) answer
 
 abbrev pub all : List Session → Bool
 all [] = true

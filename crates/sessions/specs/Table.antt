@@ -13,6 +13,7 @@ use Rattle.sessions.specs.Lent.{lent, paper, times}
 use Rattle.sessions.specs.Walk.{walkSessions}
 use Rattle.sessions.specs.Retired.{retiredSessions}
 use Rattle.sessions.specs.Counted.{countedSessions}
+use Rattle.sessions.specs.Opens.{opensSessions}
 
 -- a cell that announces nothing
 abbrev shows : ℕ → Stamp → Cell
@@ -229,4 +230,4 @@ table =
     (0x00000009080FFF00 ∷ 0x00000000FFFFFF00 ∷ 77 ∷ 77 ∷ [])
     (0x5010000000000007 ∷ 0x1000000000000009 ∷ 0x2000000000000000 ∷ 55 ∷ 55 ∷ [])
     -- of document 02: tickets that walk (card 2), the counted register (card 3), and retired readers (card 1)
-    ∷ walkSessions ++ countedSessions ++ retiredSessions
+    ∷ walkSessions ++ countedSessions ++ retiredSessions ++ opensSessions

@@ -124,7 +124,7 @@ fn run_given(
     run(g.n, g.start, words, table, log, answers)
 }
 
-// The same, folded: the answers, the whole table and log, the rows used and the verdict.
+// The same, folded: the answers, the whole table and log, the rows used, the number of open operations and the verdict.
 fn run_calls(
     sum: u64,
     g: Given,
@@ -141,7 +141,7 @@ fn run_calls(
     let a = fold_all(sum, answers);
     let b = fold_all(a, table);
     let c = fold_all(b, log);
-    judge_used(fold(c, used as u64), log, used)
+    judge_used(fold(fold(c, used as u64), head.opens as u64), log, used)
 }
 
 // The same with a log of so many rows; the table has 8 cells more than 16 readers of the first register need.

@@ -1,11 +1,11 @@
 // Question 4 of the counted register: states of two readers after W 9, R 1, S 0 and S 1, in a log of 16 rows, with fresh stamp 5; or fresh.
+use super::heads::try_numbers;
 use super::heads::try_retired;
 use super::heads::try_rows;
 use super::heads::try_sizes;
 use super::heads::try_state;
 use super::heads::try_used;
 use super::same::marks;
-use super::text::print;
 use super::text::print_with;
 use common::State;
 use register::run::run_counted;
@@ -96,17 +96,6 @@ fn try_attempt(s: State, words: &[u8], moved: u8) {
     try_state(t);
 }
 
-// A reader 3 with an open read, where there are two readers.
-fn try_third(s: State) {
-    print(b"counted, reader 3 open");
-    let mut r = s.readers[2];
-    r.active = true;
-    r.moved = 255;
-    let mut t = s;
-    t.readers[2] = r;
-    try_state(t);
-}
-
 // Free rows at least the open operations, of which there are two; words moved at most n-1 in an open write, 2n-2 in an open read.
 fn try_moved(s: State) {
     try_used(s, b"rows used ", 14);
@@ -143,7 +132,6 @@ fn try_others(s: State, first: State) {
     try_attempt(s, b"counted, second attempt, read moved ", 2);
     try_attempt(s, b"counted, second attempt, read moved ", 3);
     try_attempt(first, b"counted, fresh, second attempt, read moved ", 255);
-    try_third(s);
 }
 
 pub(crate) fn try_all() {
@@ -155,4 +143,5 @@ pub(crate) fn try_all() {
     try_stamps(s, first);
     try_others(s, first);
     try_retired(s);
+    try_numbers(s, first);
 }

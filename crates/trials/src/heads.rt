@@ -1,5 +1,6 @@
 // Question 4 of either register: states that fail one of its clauses, and those at the edge that pass. One part is changed: a field of the
-// state's head, or the length of a lent buffer. The states are of two readers: one after W 9, R 1, S 0 and S 1, in a log of 16 rows; one fresh.
+// state's head, or the length of a lent buffer; or a reader. The states are of two readers: one after W 9, R 1, S 0 and S 1, in a log of 16
+// rows; one fresh.
 use super::calls::try_call;
 use super::same::marks;
 use super::text::print;
@@ -79,31 +80,59 @@ fn try_log_of(s: State, rows: usize)
     try_lent(t, 306, rows);
 }
 
-pub(crate) fn try_used(s: State, words: &[u8], used: usize) {
-    print_changed(s.head, words, used as u64);
+fn with_used(s: State, used: usize) -> State {
     let mut h = s.head;
     h.used = used;
     let mut t = s;
     t.head = h;
-    try_state(t);
+    t
 }
 
-// The state with reader i retired.
-pub(crate) fn with_retired(s: State, i: usize) -> State
+pub(crate) fn try_used(s: State, words: &[u8], used: usize) {
+    print_changed(s.head, words, used as u64);
+    try_state(with_used(s, used));
+}
+
+// The state with another number of open operations.
+fn with_opens(s: State, opens: u8) -> State {
+    let mut h = s.head;
+    h.opens = opens;
+    let mut t = s;
+    t.head = h;
+    t
+}
+
+fn try_opens(s: State, words: &[u8], opens: u8) {
+    print_changed(s.head, words, opens as u64);
+    try_state(with_opens(s, opens));
+}
+
+// The state with reader i retired, and so many operations open.
+pub(crate) fn with_retired(s: State, i: usize, opens: u8) -> State
     requires { ⌜ (1 ≤ i) × (i ≤ 16) ⌝ }
 {
     let mut r = s.readers[i - 1];
     r.retired = true;
-    let mut t = s;
+    let mut t = with_opens(s, opens);
     t.readers[i - 1] = r;
     t
 }
 
-fn try_retired_reader(s: State, i: usize)
+fn try_retired_reader(s: State, i: usize, opens: u8)
     requires { ⌜ (1 ≤ i) × (i ≤ 16) ⌝ }
 {
     print_changed(s.head, b"retired reader ", i as u64);
-    try_state(with_retired(s, i));
+    try_state(with_retired(s, i, opens));
+}
+
+// The state with an open read of reader 3, which there is not.
+fn with_third(s: State) -> State {
+    let mut r = s.readers[2];
+    r.active = true;
+    r.moved = 255;
+    let mut t = s;
+    t.readers[2] = r;
+    t
 }
 
 // The words moved by reader 1's read, which is open no longer.
@@ -127,16 +156,38 @@ fn try_absent(s: State) {
 
 // A reader is retired: 1, whose read is open; 2; and 3, which there is not. Then words moved and rows used, with reader 1 retired.
 pub(crate) fn try_retired(s: State) {
-    try_retired_reader(s, 1);
-    try_retired_reader(s, 2);
-    try_retired_reader(s, 3);
-    try_absent(with_retired(s, 3));
-    let t = with_retired(s, 1);
+    try_retired_reader(s, 1, 1);
+    try_retired_reader(s, 2, 2);
+    try_retired_reader(s, 3, 2);
+    try_absent(with_retired(s, 3, 2));
+    let t = with_retired(s, 1, 1);
     try_retired_read(t, 255);
     try_used(t, b"retired, rows used ", 13);
     try_used(t, b"retired, rows used ", 14);
     try_used(t, b"retired, rows used ", 15);
     try_used(t, b"retired, rows used ", 16);
+}
+
+// The number of open operations is the count: 2, the writer's and reader 1's, also where the free rows would do for 1 only; 0 in the fresh
+// state; 1 with reader 1 retired, where a retirement that kept the number would leave 2; and 2 beside an open read of reader 3.
+pub(crate) fn try_numbers(s: State, first: State) {
+    try_opens(s, b"open operations ", 0);
+    try_opens(s, b"open operations ", 1);
+    try_opens(s, b"open operations ", 2);
+    try_opens(s, b"open operations ", 3);
+    try_opens(s, b"open operations ", 14);
+    try_opens(s, b"open operations ", 255);
+    try_opens(with_used(s, 15), b"rows used 15, open operations ", 1);
+    try_opens(first, b"fresh, open operations ", 0);
+    try_opens(first, b"fresh, open operations ", 1);
+    try_opens(first, b"fresh, open operations ", 255);
+    let t = with_retired(s, 1, 1);
+    try_opens(t, b"retired, open operations ", 0);
+    try_opens(t, b"retired, open operations ", 1);
+    try_opens(t, b"retired, open operations ", 2);
+    let u = with_third(s);
+    try_opens(u, b"reader 3 open, open operations ", 2);
+    try_opens(u, b"reader 3 open, open operations ", 3);
 }
 
 // n 1 to 16; this table as many cells as two readers need, or more; this log as long as recorded.

@@ -5,7 +5,7 @@ mod same; // words and states compared
 mod set_ups; // set-up: questions 1 to 3
 mod calls; // begins, sub-steps and retirements, each watched
 mod scripts; // lists of calls: questions 5 to 8
-mod heads; // question 4 of either register: sizes and rows
+mod heads; // question 4 of either register: sizes, rows, retired readers and the number of open operations
 mod range; // question 4: words moved and tickets
 mod retired; // retired readers of both registers: question 13, and what counts as open
 mod tickets; // the new ticket in states handed in

@@ -1,4 +1,5 @@
 // Question 4 of the first register: states of two readers after W 9, R 1, S 0 and S 1, in a log of 16 rows.
+use super::heads::try_numbers;
 use super::heads::try_retired;
 use super::heads::try_rows;
 use super::heads::try_sizes;
@@ -171,5 +172,6 @@ pub(crate) fn try_all() {
     try_count(s, 4294967295);
     try_retired(s);
     print(b"retired, ");
-    try_reader_stamp(with_retired(s, 1), 1, 64, 1);
+    try_reader_stamp(with_retired(s, 1, 1), 1, 64, 1);
+    try_numbers(s, first);
 }

@@ -71,7 +71,11 @@ pub(crate) fn written(words: &[u64]) -> u64 {
 }
 
 fn same_head(a: Head, b: Head) -> bool {
-    (a.counted == b.counted) & (a.n == b.n) & (a.rows == b.rows) & (a.used == b.used)
+    (a.counted == b.counted)
+        & (a.n == b.n)
+        & (a.rows == b.rows)
+        & (a.used == b.used)
+        & (a.opens == b.opens)
 }
 
 fn same_writer(a: Writer, b: Writer) -> bool {

@@ -1,6 +1,6 @@
 -- Laws of counting by a test.
 use Prim.Native.Nat.{ℕ, zero, suc, _+_, _≤_, _<_}
-use mathlib.Core.Path.{_≡_, refl, sym, ap, _∙_}
+use mathlib.Core.Path.{_≡_, refl, sym, ap}
 use mathlib.Core.Logic.{_≢_}
 use mathlib.Core.Bool.{Bool, true, false, _&&_}
 use native.Mathlib.Omega.{arith}
@@ -34,13 +34,10 @@ count-one (suc k) f g i l h = elim (ℕ-discrete i k) [
 ]
 
 -- One that it holds of is counted.
-pub count-some : (k : ℕ) (f : ℕ → Bool) (i : ℕ) → i < k → f i ≡ true → 1 ≤ count k f
+pub count-some : (k : ℕ) (f : ℕ → Bool) (i : ℕ) → i < k → one (f i) ≤ count k f
 unfolding count
-count-some zero f i h e = absurd (omega arith)
-count-some (suc k) f i h e = elim (ℕ-discrete i k) [
-  | yes g ↦ omega (arith, ap one (sym (ap f g) ∙ e))
-  | no g ↦ omega (arith, count-some k f i (omega arith) e)
-]
+count-some zero f i h = absurd (omega arith)
+count-some (suc k) f i h = elim (ℕ-discrete i k) [ yes g ↦ omega (arith, ap (λ (j : ℕ). one (f j)) g) | no g ↦ omega (arith, count-some k f i (omega arith)) ]
 
 pub all-more : (i : ℕ) (f : ℕ → Bool) → all (i + 1) f ≡ (all i f && f i)
 unfolding all

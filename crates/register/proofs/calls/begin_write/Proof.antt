@@ -1,4 +1,4 @@
-use Rattle.register.proofs.CallLaws.{with-reply, gives, room-told, begin-row, write-range, write-busy, write-full, write-spent, write-begins}
+use Rattle.register.proofs.CallLaws.{with-reply, gives, few-rows, few-open, begin-row, write-range, write-busy, write-full, write-spent, write-begins}
 use Rattle.common.proofs.Range.{test-range}
 use denote.Ref.{now}
 use mathlib.Core.Path.{sym, _∙_}
@@ -15,51 +15,53 @@ returns c =
     (gives (c .refuse .result) _ (a .s) _ _ (c .refuse .ensures .0) (c .refuse .ensures .1)
     ∙ write-busy _ (a .s) (now (a .table)) (now (a .log)) (a .value) e (c .before .if2 .taken))
 
-open-in-requires : tie.Need-open-in-requires
-open-in-requires c κs = test-range _ (c .before .before .before .before .before .before .before .args .s) _ _ (sym (c .before .before .before .before .state-ok .ensures) ∙ c .before .before .before .if1 .taken) .head-ok .n-high
-
 mul-log : tie.Need-mul-log
 mul-log c =
-    let k = test-range _ (c .before .before .before .before .before .before .before .before .before .before .before .before .before .args .s) _ _ (sym (c .before .before .before .before .before .before .before .before .before .before .state-ok .ensures) ∙ c .before .before .before .before .before .before .before .before .before .if1 .taken) .head-ok in
-    omega (arith, k .room, k .rows-high)
+    let s = c .before .before .before .before .before .before .before .before .before .before .before .before .args .s in
+    omega (arith, few-rows _ s _ _ (test-range _ s _ _ (sym (c .before .before .before .before .before .before .before .before .before .state-ok .ensures) ∙ c .before .before .before .before .before .before .before .before .if1 .taken)))
 
 slice-write-log : tie.Need-slice-write-log
 slice-write-log c =
-    let s = c .before .before .before .before .before .before .before .before .before .before .before .before .before .args .s in
-    let k = test-range _ s _ _ (sym (c .before .before .before .before .before .before .before .before .before .before .state-ok .ensures) ∙ c .before .before .before .before .before .before .before .before .before .if1 .taken) in
-    begin-row _ s _ _ k (room-told s _ _ _ (c .before .before .before .before .before .open-in .ensures) (c .before .before .before .before .has-room .ensures) (c .before .before .before .if3 .taken))
+    let s = c .before .before .before .before .before .before .before .before .before .before .before .before .args .s in
+    let k = test-range _ s _ _ (sym (c .before .before .before .before .before .before .before .before .before .state-ok .ensures) ∙ c .before .before .before .before .before .before .before .before .if1 .taken) in
+    begin-row _ s _ _ k (sym (c .before .before .before .before .has-room .ensures) ∙ c .before .before .before .if3 .taken)
 
 add-more : tie.Need-add-more
 add-more c =
-    let k = test-range _ (c .before .before .before .before .before .before .before .before .before .before .before .before .before .before .args .s) _ _ (sym (c .before .before .before .before .before .before .before .before .before .before .before .state-ok .ensures) ∙ c .before .before .before .before .before .before .before .before .before .before .if1 .taken) .head-ok in
-    omega (arith, k .room, k .rows-high)
+    let s = c .before .before .before .before .before .before .before .before .before .before .before .before .before .args .s in
+    omega (arith, few-rows _ s _ _ (test-range _ s _ _ (sym (c .before .before .before .before .before .before .before .before .before .before .state-ok .ensures) ∙ c .before .before .before .before .before .before .before .before .before .if1 .taken)))
+
+add-opens : tie.Need-add-opens
+add-opens c =
+    let s = c .before .before .before .before .before .before .before .before .before .before .before .before .before .before .before .args .s in
+    omega (arith, few-open _ s _ _ (test-range _ s _ _ (sym (c .before .before .before .before .before .before .before .before .before .before .before .before .state-ok .ensures) ∙ c .before .before .before .before .before .before .before .before .before .before .before .if1 .taken)))
 
 returns-2 : tie.Need-returns-2
 returns-2 c =
-    let a = c .before .before .before .before .before .before .before .before .before .before .before .before .before .before .before .args in
-    let e = sym (c .before .before .before .before .before .before .before .before .before .before .before .before .state-ok .ensures) ∙ c .before .before .before .before .before .before .before .before .before .before .before .if1 .taken in
-    let h = room-told (a .s) _ _ _ (c .before .before .before .before .before .before .before .open-in .ensures) (c .before .before .before .before .before .before .has-room .ensures) (c .before .before .before .before .before .if3 .taken) in
+    let a = c .before .before .before .before .before .before .before .before .before .before .before .before .before .before .before .before .args in
+    let e = sym (c .before .before .before .before .before .before .before .before .before .before .before .before .before .state-ok .ensures) ∙ c .before .before .before .before .before .before .before .before .before .before .before .before .if1 .taken in
+    let h = sym (c .before .before .before .before .before .before .before .before .has-room .ensures) ∙ c .before .before .before .before .before .before .before .if3 .taken in
     with-reply
-    (rw (c .before .before .row-of .ensures, c .before .open-writer .ensures)
-    (write-begins _ (a .s) (now (a .table)) (now (a .log)) (a .value) e (c .before .before .before .before .before .before .before .before .before .if2 .left) h (sym (c .before .before .before .before .may-write .ensures) ∙ c .before .before .before .if4 .taken)))
+    (rw (c .before .before .before .before .row-of .ensures, c .before .before .before .open-writer .ensures)
+    (write-begins _ (a .s) (now (a .table)) (now (a .log)) (a .value) e (c .before .before .before .before .before .before .before .before .before .before .if2 .left) h (sym (c .before .before .before .before .before .before .may-write .ensures) ∙ c .before .before .before .before .before .if4 .taken)))
 
 returns-3 : tie.Need-returns-3
 returns-3 c =
-    let a = c .before .before .before .before .before .before .before .before .before .before .before .before .before .args in
-    let e = sym (c .before .before .before .before .before .before .before .before .before .before .state-ok .ensures) ∙ c .before .before .before .before .before .before .before .before .before .if1 .taken in
-    let h = room-told (a .s) _ _ _ (c .before .before .before .before .before .open-in .ensures) (c .before .before .before .before .has-room .ensures) (c .before .before .before .if3 .taken) in
+    let a = c .before .before .before .before .before .before .before .before .before .before .before .before .args in
+    let e = sym (c .before .before .before .before .before .before .before .before .before .state-ok .ensures) ∙ c .before .before .before .before .before .before .before .before .if1 .taken in
+    let h = sym (c .before .before .before .before .has-room .ensures) ∙ c .before .before .before .if3 .taken in
     with-reply
     (gives (c .refuse2 .result) _ (a .s) _ _ (c .refuse2 .ensures .0) (c .refuse2 .ensures .1)
-    ∙ write-spent _ (a .s) (now (a .table)) (now (a .log)) (a .value) e (c .before .before .before .before .before .before .before .if2 .left) h (sym (c .before .before .may-write .ensures) ∙ c .before .if4 .left))
+    ∙ write-spent _ (a .s) (now (a .table)) (now (a .log)) (a .value) e (c .before .before .before .before .before .before .if2 .left) h (sym (c .before .before .may-write .ensures) ∙ c .before .if4 .left))
 
 returns-4 : tie.Need-returns-4
 returns-4 c =
-    let a = c .before .before .before .before .before .before .before .before .before .before .before .args in
-    let e = sym (c .before .before .before .before .before .before .before .before .state-ok .ensures) ∙ c .before .before .before .before .before .before .before .if1 .taken in
-    let h = room-told (a .s) _ _ _ (c .before .before .before .open-in .ensures) (c .before .before .has-room .ensures) (c .before .if3 .left) in
+    let a = c .before .before .before .before .before .before .before .before .before .before .args in
+    let e = sym (c .before .before .before .before .before .before .before .state-ok .ensures) ∙ c .before .before .before .before .before .before .if1 .taken in
+    let h = sym (c .before .before .has-room .ensures) ∙ c .before .if3 .left in
     with-reply
     (gives (c .refuse3 .result) _ (a .s) _ _ (c .refuse3 .ensures .0) (c .refuse3 .ensures .1)
-    ∙ write-full _ (a .s) (now (a .table)) (now (a .log)) (a .value) e (c .before .before .before .before .before .if2 .left) h)
+    ∙ write-full _ (a .s) (now (a .table)) (now (a .log)) (a .value) e (c .before .before .before .before .if2 .left) h)
 
 returns-5 : tie.Need-returns-5
 returns-5 c =
@@ -75,7 +77,6 @@ begin-write-spec =
     (λ c κs. search needs)
     (λ c κs. search needs)
     returns
-    open-in-requires
     (λ c κs. search needs)
     (λ c κs. search needs)
     (λ c κs. search needs)
@@ -83,6 +84,7 @@ begin-write-spec =
     slice-write-log
     (λ c κs. search needs)
     add-more
+    add-opens
     (λ c. search needs)
     returns-2
     (λ c κs. search needs)

@@ -1,5 +1,5 @@
-use Rattle.register.proofs.CallLaws.{gives, room-told, begin-row, read-busy, read-full, read-begins}
-use mathlib.Core.Path.{_∙_}
+use Rattle.register.proofs.CallLaws.{gives, few-rows, few-open, begin-row, read-busy, read-full, read-begins}
+use mathlib.Core.Path.{sym, _∙_}
 use denote.Ref.{now}
 use native.Mathlib.Omega.{arith}
 use borrow.Author.Needs.{needs}
@@ -18,39 +18,39 @@ returns c =
     gives (c .refuse .result) _ (a .t1) _ _ (c .refuse .ensures .0) (c .refuse .ensures .1)
     ∙ read-busy (a .t1) (now (a .table)) (now (a .log)) (a .p) (c .before .if1 .taken)
 
-open-in-requires : tie.Need-open-in-requires
-open-in-requires c κs = c .before .before .before .before .before .pre .in-range .head-ok .n-high
-
 cast-row-of : tie.Need-cast-row-of
-cast-row-of c = let k = c .before .before .before .before .before .before .before .before .pre in omega (arith, k .p-high, k .in-range .head-ok .n-high)
+cast-row-of c = let k = c .before .before .before .before .before .before .before .pre in omega (arith, k .p-high, k .in-range .head-ok .n-high)
 
 mul-log : tie.Need-mul-log
-mul-log c = let k = c .before .before .before .before .before .before .before .before .before .pre .in-range .head-ok in omega (arith, k .room, k .rows-high)
+mul-log c = omega (arith, few-rows _ (c .before .before .before .before .before .before .before .before .args .t1) _ _ (c .before .before .before .before .before .before .before .before .pre .in-range))
 
 slice-write-log : tie.Need-slice-write-log
 slice-write-log c =
-    let s = c .before .before .before .before .before .before .before .before .before .args .t1 in
-    begin-row _ s _ _ (c .before .before .before .before .before .before .before .before .before .pre .in-range) (room-told s _ _ _ (c .before .before .before .open-in .ensures) (c .before .before .has-room .ensures) (c .before .if2 .taken))
+    let s = c .before .before .before .before .before .before .before .before .args .t1 in
+    begin-row _ s _ _ (c .before .before .before .before .before .before .before .before .pre .in-range) (sym (c .before .before .has-room .ensures) ∙ c .before .if2 .taken)
 
 add-more : tie.Need-add-more
-add-more c = let k = c .before .before .before .before .before .before .before .before .before .before .pre .in-range .head-ok in omega (arith, k .room, k .rows-high)
+add-more c = omega (arith, few-rows _ (c .before .before .before .before .before .before .before .before .before .args .t1) _ _ (c .before .before .before .before .before .before .before .before .before .pre .in-range))
+
+add-opens : tie.Need-add-opens
+add-opens c = omega (arith, few-open _ (c .before .before .before .before .before .before .before .before .before .before .before .args .t1) _ _ (c .before .before .before .before .before .before .before .before .before .before .before .pre .in-range))
 
 element-set-from-next : tie.Need-element-set-from-next
-element-set-from-next c = let k = c .before .before .before .before .before .before .before .before .before .before .before .pre in omega (arith, k .p-low, k .p-high, k .in-range .head-ok .n-high)
+element-set-from-next c = let k = c .before .before .before .before .before .before .before .before .before .before .before .before .pre in omega (arith, k .p-low, k .p-high, k .in-range .head-ok .n-high)
 
 returns-2 : tie.Need-returns-2
 returns-2 c =
-    let a = c .before .before .before .before .before .before .before .before .before .before .before .args in
-    let h = room-told (a .t1) _ _ _ (c .before .before .before .before .before .open-in .ensures) (c .before .before .before .before .has-room .ensures) (c .before .before .before .if2 .taken) in
-    rw (c .before .before .row-of .ensures, c .before .open-reader .ensures)
-    (read-begins (a .t1) (now (a .table)) (now (a .log)) (a .p) (c .before .before .before .before .before .before .if1 .left) h)
+    let a = c .before .before .before .before .before .before .before .before .before .before .before .before .args in
+    let h = sym (c .before .before .before .before .before .before .has-room .ensures) ∙ c .before .before .before .before .before .if2 .taken in
+    rw (c .before .before .before .before .row-of .ensures, c .before .before .before .open-reader .ensures)
+    (read-begins (a .t1) (now (a .table)) (now (a .log)) (a .p) (c .before .before .before .before .before .before .before .if1 .left) h)
 
 returns-3 : tie.Need-returns-3
 returns-3 c =
-    let a = c .before .before .before .before .before .before .before .before .before .args in
-    let h = room-told (a .t1) _ _ _ (c .before .before .before .open-in .ensures) (c .before .before .has-room .ensures) (c .before .if2 .left) in
+    let a = c .before .before .before .before .before .before .before .before .args in
+    let h = sym (c .before .before .has-room .ensures) ∙ c .before .if2 .left in
     gives (c .refuse2 .result) _ (a .t1) _ _ (c .refuse2 .ensures .0) (c .refuse2 .ensures .1)
-    ∙ read-full (a .t1) (now (a .table)) (now (a .log)) (a .p) (c .before .before .before .before .if1 .left) h
+    ∙ read-full (a .t1) (now (a .table)) (now (a .log)) (a .p) (c .before .before .before .if1 .left) h
 
 pub open-read-spec : {M : Type 1} → statement M
 open-read-spec =
@@ -61,7 +61,6 @@ open-read-spec =
     element-copy-out-r
     (λ c κs. search needs)
     returns
-    open-in-requires
     (λ c κs. search needs)
     cast-row-of
     (λ c κs. search needs)
@@ -69,6 +68,7 @@ open-read-spec =
     slice-write-log
     (λ c κs. search needs)
     add-more
+    add-opens
     (λ c. search needs)
     element-set-from-next
     (λ c. search needs)

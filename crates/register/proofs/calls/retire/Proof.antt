@@ -1,5 +1,6 @@
 use Rattle.register.proofs.AskedLaws.{passed}
 use Rattle.register.proofs.CallLaws.{with-reply, gives, retire-asked, retire-refused}
+use Rattle.common.proofs.Range.{reader-open}
 use mathlib.Core.Path.{_∙_}
 use denote.Ref.{now}
 use native.Mathlib.Omega.{arith}
@@ -11,7 +12,7 @@ withdraw-requires : tie.Need-withdraw-requires
 withdraw-requires c κs =
     let a = c .before .before .before .before .before .args in
     let k = passed _ (a .s) _ _ 1 (a .p) (c .before .before .ask .result) (c .before .before .ask .ensures) (c .enum-told .given .1) in
-    (k .p-low, omega (arith, k .p-high, k .in-range .head-ok .n-high))
+    (k .p-low, omega (arith, k .p-high, k .in-range .head-ok .n-high), reader-open (a .s) (a .p) (k .p-low) (k .free) (k .p-high) _ _ _ (k .in-range))
 
 returns : tie.Need-returns
 returns c =

@@ -1,5 +1,5 @@
 use Rattle.register.proofs.KindLaws.{read-low}
-use Rattle.register.proofs.CallLaws.{table-in, read-row, read-goes, read-ends}
+use Rattle.register.proofs.CallLaws.{table-in, few-rows, read-row, read-counts, read-goes, read-ends}
 use Rattle.common.proofs.Range.{reader-ok}
 use Prim.Native.Nat.{_-_}
 use denote.Ref.{now}
@@ -36,7 +36,7 @@ cast-row-of : tie.Need-cast-row-of
 cast-row-of c = omega (arith, c .before .before .before .before .before .before .before .before .before .before .pre .2, c .before .before .before .before .before .before .before .before .before .before .pre .0 .head-ok .n-high)
 
 mul-log : tie.Need-mul-log
-mul-log c = omega (arith, c .before .before .before .before .before .before .before .before .before .before .before .before .pre .0 .head-ok .room, c .before .before .before .before .before .before .before .before .before .before .before .before .pre .0 .head-ok .rows-high)
+mul-log c = let p = c .before .before .before .before .before .before .before .before .before .before .before .before .pre in omega (arith, few-rows _ (c .before .before .before .before .before .before .before .before .before .before .before .before .args .t1) _ _ (p .0))
 
 slice-write-log : tie.Need-slice-write-log
 slice-write-log c =
@@ -44,13 +44,19 @@ slice-write-log c =
     read-row _ (c .before .before .before .before .before .before .before .before .before .before .before .before .args .t1) _ _ (p .0) (c .before .before .before .before .before .before .before .before .before .before .before .before .args .p) (p .1) (p .2) (p .3) (p .4)
 
 add-more : tie.Need-add-more
-add-more c = omega (arith, c .before .before .before .before .before .before .before .before .before .before .before .before .pre .0 .head-ok .room, c .before .before .before .before .before .before .before .before .before .before .before .before .pre .0 .head-ok .rows-high)
+add-more c = let p = c .before .before .before .before .before .before .before .before .before .before .before .before .pre in omega (arith, few-rows _ (c .before .before .before .before .before .before .before .before .before .before .before .before .args .t1) _ _ (p .0))
+
+sub-opens : tie.Need-sub-opens
+sub-opens c =
+    let a = c .before .before .before .before .before .before .before .before .before .before .before .before .before .before .args in
+    let p = c .before .before .before .before .before .before .before .before .before .before .before .before .before .before .pre in
+    read-counts _ (a .t1) _ _ (p .0) (a .p) (p .1) (p .2) (p .3) (p .4)
 
 returns-2 : tie.Need-returns-2
 returns-2 c =
-    let a = c .before .before .before .before .before .before .before .before .before .before .before .before .before .args in
-    rw (c .before .row-of .ensures, c .before .before .value-in .ensures)
-    (read-ends _ (a .t1) (now (a .table)) (now (a .log)) (a .p) (c .before .before .before .before .before .before .before .read-step .result) _ (c .before .before .before .before .before .before .before .read-step .ensures) (c .before .before .before .if1 .left))
+    let a = c .before .before .before .before .before .before .before .before .before .before .before .before .before .before .before .args in
+    rw (c .before .before .before .row-of .ensures, c .before .before .before .before .value-in .ensures)
+    (read-ends _ (a .t1) (now (a .table)) (now (a .log)) (a .p) (c .before .before .before .before .before .before .before .before .before .read-step .result) _ (c .before .before .before .before .before .before .before .before .before .read-step .ensures) (c .before .before .before .before .before .if1 .left))
 
 pub step-reader-spec : {M : Type 1} → statement M
 step-reader-spec =
@@ -71,6 +77,7 @@ step-reader-spec =
     mul-log
     slice-write-log
     add-more
+    sub-opens
     (λ c. search needs)
     (λ c. search needs)
     returns-2)
