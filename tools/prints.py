@@ -17,7 +17,7 @@ from draw import listed, picture
 from model import (
     MAX_ROWS, NO_STAMP, Counted, Register, bench, bytes_of, log_of, unpack_cell, unpack_counted)
 from soak import soak_lines
-from trials_expected import trials_lines
+from trials_expected import trials_input, trials_lines
 from verdict_logs import STANDARD_INPUT, expected, verdict_logs
 
 ROOT = Path(__file__).resolve().parent.parent
@@ -102,7 +102,7 @@ def lines_of(lines):
 FOLDERS = {
     'crates/verdict': judging,
     'crates/bench': joining,
-    'crates/trials': lambda: [('stdout', lines_of(trials_lines()))],
+    'crates/trials': lambda: [('stdin', lines_of(trials_input())), ('stdout', lines_of(trials_lines()))],
     'crates/soak': lambda: [('stdout', lines_of(soak_lines()))],
     'examples': examples,
 }

@@ -1,10 +1,11 @@
-"""What the program trials must print, by the outside model. `prints.py` writes it.
+"""The trials, and what the program trials must print of them, by the outside model. `prints.py`
+writes both.
 
-The trials stand in the program's order. Every answer is the model's; that a refused call
-leaves state, table and log “unaltered” is document 01's “A no gives its number and alters
-nothing”.
+Every answer is the model's; that a refused call leaves state, table and log “unaltered” is
+document 01's “A no gives its number and alters nothing”.
 """
 
+from collections import namedtuple
 from dataclasses import replace
 
 from model import (
@@ -14,6 +15,59 @@ from model import (
 from verdict_logs import OPEN_READ, OPEN_WRITE, START
 
 MARK = (1 << 64) - 1  # what buffers hold before anything is written to them
+
+# The words that its line begins with, the acts that make it, and what its line says of them.
+Trial = namedtuple('Trial', 'words acts result')
+
+
+# Acts, as `crates/trials/src/acts.rt` has them
+
+KINDS = {'W': 1, 'R': 2, 'S': 3, 'U': 4}
+GOES_ON, STAYS, QUIET = 0, 1, 2  # the state, behind a call
+HEAD = 17  # for a processor
+CELLS = (11, 0, 0, 0)
+
+
+def calls(text, then):
+    for call in filter(None, text.split(', ')):
+        letter, number = call.split()
+        yield KINDS[letter], int(number), then, 0
+
+
+def lend(cells, rows):
+    return 5, cells, rows, 0
+
+
+def set_up(n, printed=0):
+    return 6, n, 0, printed
+
+
+def set_up_counted(n, fresh, printed=0):
+    return 7, n, fresh, printed
+
+
+def change(p, field, value):
+    return 8, p, field, value
+
+
+def put_cell(place, word):
+    return 9, place, *divmod(word, 1 << 32)
+
+
+def put_rows(rows):
+    return [(10, place, *divmod(row, 1 << 32)) for place, row in enumerate(rows)]
+
+
+def judge_used(printed=0):
+    return 12, printed, 0, 0
+
+
+def judge_first(rows, places):
+    return 13, rows, places, 0
+
+
+def judge_bytes_of(count):
+    return 14, count, 0, 0
 
 
 def answer_text(answer):
@@ -29,16 +83,21 @@ def call_text(call, answer):
 
 # Set-up, lists of calls and sessions
 
-def set_up_line(n, cells, rows):
+def set_up_trial(n, cells, rows):
     table, log = [MARK] * cells, [MARK] * rows
-    return set_up_text(n, Register().set_up(n, 7, table, log), table, log)
+    answer = Register().set_up(n, 7, table, log)
+    return Trial(
+        set_up_words(n, table, log), [lend(cells, rows), set_up(n, 1)],
+        set_up_result(answer, table, log))
 
 
-def set_up_text(n, answer, table, log):
-    cells, rows, answer = len(table), len(log), answer_text(answer)
+def set_up_words(n, table, log):
+    return f'set-up with {n} readers, {len(table)} cells, {len(log)} rows: '
+
+
+def set_up_result(answer, table, log):
     written = [sum(word != MARK for word in words) for words in (table, log)]
-    return (f'set-up with {n} readers, {cells} cells, {rows} rows: {answer}, '
-            f'cells written {written[0]}, rows written {written[1]}')
+    return f'{answer_text(answer)}, cells written {written[0]}, rows written {written[1]}'
 
 
 SET_UPS = [
@@ -49,13 +108,16 @@ SET_UPS = [
 ]
 
 
-def script_line(n, rows, text):
+def script_trial(n, rows, text):
     """The answer to each call, calls as the bench reads them, and `U i` retires reader i; and the
     order of the rows."""
     register = Register()
-    register.set_up(n, 7, [MARK] * (n * n + n), [MARK] * rows)
-    calls = calls_text(register, text)
-    return f'readers {n}, rows {rows}{calls}; log{log_text(register.log[:register.used], 16)}'
+    register.set_up(n, 7, [MARK] * 306, [MARK] * rows)
+    made = calls_text(register, text)
+    return Trial(
+        f'readers {n}, rows {rows}',
+        [lend(306, rows), set_up(n), *calls(text, GOES_ON), judge_used()],
+        f'{made}; log{log_text(register.log[:register.used], 16)}')
 
 
 def calls_text(register, text):
@@ -94,15 +156,17 @@ SCRIPTS = [
 def sessions():
     """“Row 0 alone: empty order. 0 and 17 readers: 1. Log of 2: 3. Log of 3: one operation
     fits, the next begin gives 7.”"""
-    yield script_line(1, 3, '')
-    yield set_up_line(0, 306, 4096)
-    yield set_up_line(17, 306, 4096)
-    yield set_up_line(1, 2, 2)
-    yield script_line(1, 3, 'W 9, S 0, S 0, W 9, R 1')
-    yield script_line(1, 3, 'R 1, S 1, S 1, S 1, S 1, S 1, R 1, W 9')
+    yield script_trial(1, 3, '')
+    yield set_up_trial(0, 306, 4096)
+    yield set_up_trial(17, 306, 4096)
+    yield set_up_trial(1, 2, 2)
+    yield script_trial(1, 3, 'W 9, S 0, S 0, W 9, R 1')
+    yield script_trial(1, 3, 'R 1, S 1, S 1, S 1, S 1, S 1, R 1, W 9')
 
 
 # Question 4
+
+ALL_CALLS = 'W 5, R 2, S 0, S 1, S 99, U 1, U 99'
 
 # A fresh state of two readers; and that after W 9, R 1, S 0, S 1.
 FRESH = TicketRange(
@@ -187,7 +251,7 @@ RANGES = [
     write(2, range(2, 8), 63), write(2, range(2, 9), 63),
     write(3, range(2, 10), 63),
     unstamped(1, range(0, 5)), unstamped(1, range(0, 6)),
-    (f'count {LAST_STAMP}', BEGUN),  # the counted register's
+    (f'count {LAST_STAMP}', BEGUN, ALL_CALLS, [change(0, 4, LAST_STAMP)]),  # the counted register's
     *retired(BEGUN, 255),
     ('retired, ' + stamp(1, 64, 1)[0], replace(stamp(1, 64, 1)[1], retired={1}, busy=1)),
     *numbers(FRESH, BEGUN),
@@ -216,24 +280,71 @@ def answer_with(state, letter, p):
     return ('begun',)
 
 
-def range_line(name, state, calls='W 5, R 2, S 0, S 1, S 99, U 1, U 99'):
-    """The calls, each with the same state."""
-    for call in calls.split(', '):
+def range_trial(words, state, text=ALL_CALLS, more=()):
+    """The calls, each with the same state, in which what question 4 does not look at is changed
+    too."""
+    result = ''
+    for call in text.split(', '):
         letter, number = call.split()
         p = 0 if letter == 'W' else int(number)
-        name += call_text(call, answer_with(state, letter, p))
-    return name
+        result += call_text(call, answer_with(state, letter, p))
+    return Trial(words, [*state_acts(state), *more, *calls(text, STAYS)], result)
+
+
+def state_acts(state):
+    """A set-up of two readers, and what makes the state of what it leaves, or of what W 9, R 1,
+    S 0 and S 1 leave; the cells and rows that are lent with it."""
+    counted = isinstance(state, CountedRange)
+    fresh, begun = (COUNTED_FRESH, COUNTED_BEGUN) if counted else (FRESH, BEGUN)
+    base = begun if state.moved else fresh
+    yield lend(base.cells, base.log)
+    yield set_up_counted(base.n, base.stamp) if counted else set_up(base.n)
+    yield from calls('W 9, R 1, S 0, S 1' if state.moved else '', QUIET)
+    for field, name in enumerate(('n', 'rows', 'used', 'busy'), 1):
+        if getattr(state, name) != getattr(base, name):
+            yield change(HEAD, field, getattr(state, name))
+    for p, moved in state.moved.items():
+        if moved != base.moved.get(p):
+            yield change(p, 1, moved)
+        if p not in base.moved:
+            yield change(p, 4, 1)
+    yield from (change(p, 3, 1) for p in state.retired)
+    yield from counted_acts(state, base) if counted else ticket_acts(state, base)
+    yield lend(state.cells, state.log)
+
+
+def ticket_acts(state, base):
+    """Of the first register's own: the open write's tickets, the second attempt, the stamps."""
+    if state.moved.get(0) != base.moved.get(0) or state.barred:
+        yield change(0, 2, sum(1 << ticket for ticket in state.barred))
+        yield change(0, 3, state.ticket)
+    yield from (change(p, 2, 1) for p in state.second)
+    for p, (own, before) in enumerate(zip(state.own, base.own)):
+        if own != before:
+            yield change(p, 5, own[0])
+            yield change(p, 6, own[1])
+
+
+def counted_acts(state, base):
+    """Of the counted register's own: the stamp."""
+    if state.stamp != base.stamp:
+        yield change(0, 4, state.stamp)
 
 
 # The new ticket in states handed in
 
-def ticket_line(own, barred):
-    """A write of 9 with two readers, that has read both cells; its first store."""
-    state = replace(write(2, barred, 63)[1], own=[own] + [NO_STAMP] * 16)
+def ticket_trial(own, barred):
+    """A write of 9 with two readers, that has read both cells; its first store, in a table of
+    marks."""
+    state = replace(write(2, barred, 63)[1], own=[own] + [NO_STAMP] * 16, cells=6)
     call = call_text('S 0', answer_with(state, 'S', 0))
     cells = [pack_cell(Cell(9, (new_ticket(2, own, set(barred)), own[0])))] + [MARK] * 5
+    marks = [put_cell(place, MARK) for place in range(6)]
     excluded = sum(1 << ticket for ticket in barred)
-    return f'own stamp {own[0]} {own[1]}, set excluded {excluded}{call}; cells{hex_text(cells)}'
+    return Trial(
+        f'own stamp {own[0]} {own[1]}, set excluded {excluded}',
+        [*state_acts(state), *marks, *calls('S 0', GOES_ON), CELLS],
+        f'{call}; cells{hex_text(cells)}')
 
 
 TICKETS = [
@@ -248,10 +359,12 @@ TICKETS = [
 
 # The counted register
 
-def counted_set_up_line(n, fresh, cells, rows):
+def counted_set_up_trial(n, fresh, cells, rows):
     table, log = [MARK] * cells, [MARK] * rows
     answer = Counted().set_up(n, 7, fresh, table, log)
-    return f'counted from {fresh}, ' + set_up_text(n, answer, table, log)
+    return Trial(
+        f'counted from {fresh}, ' + set_up_words(n, table, log),
+        [lend(cells, rows), set_up_counted(n, fresh, 1)], set_up_result(answer, table, log))
 
 
 COUNTED_SET_UPS = [
@@ -270,27 +383,39 @@ def hex_text(words):
 def counted_text(register, text):
     """The cells, the answer to each call, the cells and rows they leave, and the order."""
     cells = hex_text(register.table)
-    calls = calls_text(register, text)
+    made = calls_text(register, text)
     used = register.log[:register.used]
-    return (f'; cells{cells}{calls}; cells{hex_text(register.table)}; '
+    return (f'; cells{cells}{made}; cells{hex_text(register.table)}; '
             f'log{hex_text(used)}{log_text(used, 16)}')
 
 
-def counted_script_line(n, fresh, rows, text):
+def counted_calls(text):
+    return [CELLS, *calls(text, GOES_ON), CELLS, judge_used(1)]
+
+
+def counted_script_trial(n, fresh, rows, text):
     """Calls of a fresh register."""
     register = Counted()
     register.set_up(n, 7, fresh, [MARK] * (n * n), [MARK] * rows)
-    return f'counted from {fresh}, readers {n}, rows {rows}' + counted_text(register, text)
+    return Trial(
+        f'counted from {fresh}, readers {n}, rows {rows}',
+        [lend(n * n, rows), set_up_counted(n, fresh), *counted_calls(text)],
+        counted_text(register, text))
 
 
-def cells_set_line(*cells):
+def cells_set_trial(*cells):
     """A read by reader 3 of 3 that finds these cells of the writer and of readers 1 and 2."""
     register = Counted()
     register.set_up(3, 7, 5, [MARK] * 9, [MARK] * 16)
-    for i, cell in enumerate(cells):
-        register.table[counted_index(3, i, 3)] = pack_counted(CountedCell(*cell))
-    calls = counted_text(register, 'R 3, S 3, S 3, S 3, S 3, S 3')
-    return f'counted from 5, readers 3, rows 16, cells set{calls}'
+    places = [counted_index(3, i, 3) for i in range(3)]
+    for place, cell in zip(places, cells):
+        register.table[place] = pack_counted(CountedCell(*cell))
+    text = 'R 3, S 3, S 3, S 3, S 3, S 3'
+    found = [put_cell(place, register.table[place]) for place in places]
+    return Trial(
+        'counted from 5, readers 3, rows 16, cells set',
+        [lend(9, 16), set_up_counted(3, 5), *found, *counted_calls(text)],
+        counted_text(register, text))
 
 
 COUNTED_SESSIONS = [
@@ -337,12 +462,20 @@ COUNTED_BEGUN = replace(COUNTED_FRESH, used=3, busy=2, moved={0: 1, 1: 1})
 SPENT = replace(COUNTED_FRESH, stamp=LAST_STAMP)
 
 
-def counted_write(moved, name=''):
-    return f'{name}write moved {moved}', replace(COUNTED_BEGUN, moved={0: moved, 1: 1})
+# What the first register alone has: the writer's set of tickets, new ticket and stamp; reader 1's
+# attempt and stamp.
+TICKETS_SET = [change(0, 2, LAST_STAMP), change(0, 3, 255), change(0, 5, 64), change(0, 6, 255)]
+SECOND_SET = [change(1, 2, 1), change(1, 5, 64), change(1, 6, 255)]
 
 
-def counted_read(moved, name=''):
-    return f'{name}read moved {moved}', replace(COUNTED_BEGUN, moved={0: 1, 1: moved})
+def counted_write(moved, name='', more=()):
+    state = replace(COUNTED_BEGUN, moved={0: moved, 1: 1})
+    return f'{name}write moved {moved}', state, ALL_CALLS, more
+
+
+def counted_read(moved, name='', more=()):
+    state = replace(COUNTED_BEGUN, moved={0: 1, 1: moved})
+    return f'{name}read moved {moved}', state, ALL_CALLS, more
 
 
 COUNTED_RANGES = [
@@ -353,22 +486,23 @@ COUNTED_RANGES = [
     *((f'fresh, stamp {stamp}', replace(COUNTED_FRESH, stamp=stamp))
       for stamp in (LAST_STAMP - 1, LAST_STAMP)),
     *((f'fresh, stamp spent, rows used {used}', replace(SPENT, used=used)) for used in (14, 15)),
-    # What the first register alone has.
-    *(counted_write(moved, 'with tickets, ') for moved in (0, 1, 2)),
-    ('fresh, with tickets, write moved 255', COUNTED_FRESH),
-    *(counted_read(moved, 'second attempt, ') for moved in (0, 2, 3)),
-    ('fresh, second attempt, read moved 255', COUNTED_FRESH),
+    *(counted_write(moved, 'with tickets, ', TICKETS_SET) for moved in (0, 1, 2)),
+    ('fresh, with tickets, write moved 255', COUNTED_FRESH, ALL_CALLS,
+     [change(0, 1, 255), *TICKETS_SET]),
+    *(counted_read(moved, 'second attempt, ', SECOND_SET) for moved in (0, 2, 3)),
+    ('fresh, second attempt, read moved 255', COUNTED_FRESH, ALL_CALLS,
+     [change(1, 1, 255), *SECOND_SET]),
     *retired(COUNTED_BEGUN, 255),
     *numbers(COUNTED_FRESH, COUNTED_BEGUN),
 ]
 
 
-def counted_lines():
-    yield from (counted_script_line(*script) for script in COUNTED_SESSIONS)
-    yield from (counted_set_up_line(*sizes) for sizes in COUNTED_SET_UPS)
-    yield from (counted_script_line(*script) for script in COUNTED_SCRIPTS)
-    yield from (cells_set_line(*cells) for cells in CELLS_SET)
-    yield from (range_line(f'counted, {name}', *rest) for name, *rest in COUNTED_RANGES)
+def counted_trials():
+    yield from (counted_script_trial(*script) for script in COUNTED_SESSIONS)
+    yield from (counted_set_up_trial(*sizes) for sizes in COUNTED_SET_UPS)
+    yield from (counted_script_trial(*script) for script in COUNTED_SCRIPTS)
+    yield from (cells_set_trial(*cells) for cells in CELLS_SET)
+    yield from (range_trial(f'counted, {name}', *rest) for name, *rest in COUNTED_RANGES)
 
 
 # The judge
@@ -390,17 +524,31 @@ def number(data):
     return 0 if answer[0] == 'order' else answer[1]
 
 
-def log_line(rows, places):
-    return 'log' + hex_text(rows) + log_text(rows, places)
+def log_trial(rows, places, words=''):
+    return Trial(
+        f'{words}log{hex_text(rows)}',
+        [lend(0, len(rows)), *put_rows(rows), judge_first(len(rows), places)],
+        log_text(rows, places))
 
 
 def lengths():
     """“1 to 4,096 rows (9)?”; “a length not a multiple of 8 is 9”."""
     for rows in 0, 4096, 4097:
-        yield f'rows {rows}' + log_text([MARK] * rows, 16)
-    row = bytes_of([pack_row(5, 1, 7)]) + b'\x30'
-    for data in row[:0], row[:7], row[:8], row, *map(bytes, (32767, 32768, 32769, 32776)):
-        yield f'bytes {len(data)}: {number(data)}'
+        yield Trial(
+            f'rows {rows}', [lend(0, rows), judge_first(rows, 16)], log_text([MARK] * rows, 16))
+    rows = [pack_row(5, 1, 7), pack_row(3, 0, 0)]
+    for count in 0, 7, 8, 9:
+        yield bytes_trial(rows, count)
+    for count in 32767, 32768, 32769, 32776:
+        yield bytes_trial([], count)
+
+
+def bytes_trial(rows, count):
+    """So many bytes: those of the rows, and then marks."""
+    data = bytes_of(rows + [MARK] * (4097 - len(rows)))[:count]
+    return Trial(
+        f'bytes {count}: ', [lend(0, 4097), *put_rows(rows), judge_bytes_of(count)],
+        str(number(data)))
 
 
 MALFORMED = [
@@ -447,14 +595,25 @@ ORDERS = [
 ]
 
 
-def trials_lines():
+def trials():
     yield from sessions()
-    yield from (set_up_line(*sizes) for sizes in SET_UPS)
-    yield from (script_line(*script) for script in SCRIPTS)
-    yield from (range_line(*state) for state in RANGES)
-    yield from (ticket_line(*state) for state in TICKETS)
-    yield from counted_lines()
+    yield from (set_up_trial(*sizes) for sizes in SET_UPS)
+    yield from (script_trial(*script) for script in SCRIPTS)
+    yield from (range_trial(*state) for state in RANGES)
+    yield from (ticket_trial(*state) for state in TICKETS)
+    yield from counted_trials()
     yield from lengths()
-    yield from (log_line(rows, 0) for rows in MALFORMED)
+    yield from (log_trial(rows, 0) for rows in MALFORMED)
     for places, text in ORDERS:
-        yield f'places {places}, ' + log_line(log_of(2, 7, text), places)
+        yield log_trial(log_of(2, 7, text), places, f'places {places}, ')
+
+
+def trials_input():
+    """What the program reads: the words of each trial, and its acts."""
+    for trial in trials():
+        yield f'{trial.words}|' + ' '.join(str(number) for act in trial.acts for number in act)
+
+
+def trials_lines():
+    """What it prints."""
+    return (trial.words + trial.result for trial in trials())

@@ -7,7 +7,7 @@ use lib.ListN.{length, take, length-take, replicate, length-replicate}
 use Rattle.protocol.specs.Rules.{ticketRules}
 use Rattle.protocol.specs.Reference.{book}
 use Rattle.protocol.specs.Whole.{Whole}
-use Rattle.register.specs.Run.{MadeCalls, WholeRun}
+use Rattle.lists.specs.Run.{MadeCalls, WholeRun}
 
 -- the used rows are within the log
 pub used-fits : (n v : ℕ) (t l words places : List ℕ) (m : MadeCalls) → WholeRun ticketRules book (Whole n v t l) n v 0 t l words places m

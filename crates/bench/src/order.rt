@@ -2,7 +2,7 @@
 use super::text::print_no_order;
 use super::text::print_order;
 use super::text::print_refused;
-use judge::verdict::Verdict;
+use judging::Verdict;
 
 // What the judge says of the rows. There are places for every order.
 pub(crate) fn print_verdict(rows: &[u64]) {

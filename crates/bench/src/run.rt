@@ -6,10 +6,10 @@ use super::text::print_refusals;
 use super::text::print_refused;
 use common::Answer;
 use common::numbers::refusal_number;
-use lines::fields::NONE;
-use lines::fields::first_in;
-use lines::fields::place_of;
-use lines::script::read_calls;
+use fields::NONE;
+use fields::first_in;
+use fields::place_of;
+use script::read_calls;
 ghost use Prim.Native.Nat.{_≤_};
 
 // The listing and the order of the log's rows; or the bad line behind the calls, if there is one.
@@ -28,7 +28,7 @@ fn run_calls(readers: u32, start: u32, words: &[u64], bad: u64) {
     let mut table = [0u64; 272];
     let mut log = [0u64; 4096];
     let mut answers = [0u64; 16384];
-    let ran = register::run::run(readers, start, words, &mut table, &mut log, &mut answers);
+    let ran = lists::run(readers, start, words, &mut table, &mut log, &mut answers);
     let answer = ran.answer;
     let calls = ran.calls;
     let state = calls.state;

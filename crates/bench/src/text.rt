@@ -38,7 +38,7 @@ pub(crate) fn print_order(order: &[u64]) {
 // The line of row k.
 fn print_row(k: u64, row: u64) {
     let mut line = [0u8; 80];
-    let n = lines::listing::row_line(&mut line, k, row);
+    let n = listing::row_line(&mut line, k, row);
     io::write_all(STDOUT_FILENO, &line[..n]);
 }
 

@@ -1,21 +1,16 @@
 -- What is asked of a call by a processor: questions 5 and 13, of a state and of the book. And what a reader that is not retired counts as.
-use Prim.Native.Nat.{ℕ, zero, suc, _-_, _≤_, _<_}
-use mathlib.Core.Path.{_≡_, refl, ap, _∙_}
-use mathlib.Core.Logic.{_≢_}
-use mathlib.Core.Bool.{Bool, false, not, _&&_}
+use Prim.Native.Nat.{ℕ, _≤_}
+use mathlib.Core.Path.{_≡_, ap}
+use mathlib.Core.Bool.{Bool, false, _&&_}
 use mathlib.Core.List.{List}
-use native.Mathlib.Omega.{arith}
-use lib.ListN.{length}
-use lib.Seq.{getD-set-same, getD-set-other}
-use lib.Dec.{leb, eqb}
-use borrow.Author.Tests.{leb-true, ne-eqb}
+use lib.Dec.{leb}
+use borrow.Author.Tests.{leb-true}
 use Rattle.words.proofs.Laws.Choice.{pick-ind, left, right}
 use Rattle.common.specs.declared.Refusal.the-variants.{Processor, Retired}
-use Rattle.common.specs.declared.Head.{Head}
 use Rattle.common.specs.declared.Reader.{Reader}
 use Rattle.common.specs.declared.State.{State}
 use Rattle.common.specs.Head.{isProcessor}
-use Rattle.common.specs.State.{blank, readerAt, isRetired, stillOpen, asCounted, withReader}
+use Rattle.common.specs.State.{isRetired, stillOpen, asCounted}
 use Rattle.common.specs.SetUp.{Outcome, refused}
 use Rattle.common.specs.Register.{asProcessor}
 use Rattle.common.specs.Book.{Model, Told, declined, ofProcessor}
@@ -38,20 +33,6 @@ module _ {Stamp Cell : Type 0} (P : Told Stamp Cell → Type 0) (n : ℕ) (b : M
       (λ e. pick-ind P _ _ _ (λ _. retired)
       (f (leb-true least p (left (leb least p) (leb p n) e)) (leb-true p n (right (leb least p) (leb p n) e))))
       (λ _. no-processor)
-
--- A reader is retired if its processor is.
-pub retired-at : (s : State) (p : ℕ) → p ≢ 0 → isRetired s p ≡ readerAt s (p - 1) .retired
-retired-at s p ne = rw (ne-eqb p 0 ne)
-
--- Where reader p is replaced, it is retired if the new one is, and no other processor changes.
-module _ (s : State) (p : ℕ) (r : Reader) (h : Head) (p1 : 1 ≤ p) where
-  pub retired-own : p - 1 < length (s .readers) → isRetired (withReader s (p - 1) r h) p ≡ r .retired
-  retired-own l = retired-at (withReader s (p - 1) r h) p (omega arith) ∙ ap (λ (x : Reader). x .retired) (getD-set-same (s .readers) (p - 1) r blank l)
-
-  pub retired-other : (j : ℕ) → j ≢ p → isRetired (withReader s (p - 1) r h) j ≡ isRetired s j
-  retired-other zero ne = refl
-  retired-other (suc k) ne =
-      ap (λ (x : Reader). not (eqb (suc k) 0) && x .retired) (getD-set-other (s .readers) (p - 1) (suc k - 1) r blank (omega arith))
 
 -- A reader, as it counts if it is retired or not.
 abbrev countedIf : Reader → Bool → Reader

@@ -1,13 +1,10 @@
 -- A state that passed question 4 passes it again after the call.
 use Prim.Native.Nat.{ℕ, _+_, _-_, _≤_, _<_}
 use mathlib.Core.Path.{_≡_, refl, sym, subst, ap, _∙_}
-use mathlib.Core.Logic.{_≢_}
 use mathlib.Core.List.{List}
 use mathlib.Core.Bool.{Bool, true, false}
 use native.Mathlib.Omega.{arith}
-use native.Mathlib.Decide.{ℕ-discrete}
-use lib.ListN.{length, getD, set, length-set}
-use lib.Seq.{getD-set-same, getD-set-other}
+use lib.ListN.{length, length-set}
 use Rattle.words.specs.Counting.{one}
 use Rattle.words.proofs.Laws.Choice.{le-ind, eq-ind, pick-ind}
 use Rattle.words.proofs.Laws.Counting.{count-one}
@@ -18,7 +15,7 @@ use Rattle.common.specs.declared.State.{State}
 use Rattle.common.specs.Calls.{Call, write, read, step, retire}
 use Rattle.common.specs.Effects.{AtMostOne, as-it-was, one-set, Passes}
 use Rattle.common.specs.Head.{headWith}
-use Rattle.common.specs.State.{blank, readerAt, isRetired, asCounted, openIn, withWriter, withReader, writerBegins, readerBegins, retires}
+use Rattle.common.specs.State.{readerAt, isRetired, asCounted, openIn, withWriter, withReader, writerBegins, readerBegins, retires}
 use Rattle.common.specs.Rules.{Rules, stateOk, InRange}
 use Rattle.common.specs.SetUp.{Outcome}
 use Rattle.common.specs.Register.{beginWriteOf, beginReadOf, stepWriter, stepReader, stepOf, retireOf, callOf}
@@ -26,7 +23,8 @@ use Rattle.common.proofs.Effects.{retires-still}
 use Rattle.common.proofs.HeadLaws.{head-moves, head-steps}
 use Rattle.common.proofs.LogRows.{pick-length}
 use Rattle.common.proofs.Lawful.{Lawful}
-use Rattle.common.proofs.Asked.{as-processor, retired-at, counts}
+use Rattle.common.proofs.Replaced.{retired-at, reader-own, reader-other, each-place}
+use Rattle.common.proofs.Asked.{as-processor, counts}
 use Rattle.common.proofs.Range.{test-range, range-test, stands, reader-ok, reader-open, writer-open}
 
 -- A list with at most one place set has its length.
@@ -54,22 +52,19 @@ module _ (R : Rules) (s : State) (cells log : ℕ) (g : Good R s cells log) wher
 
   -- The same of a reader.
   module _ (i : ℕ) (r : Reader) (h : i < s .head .n) where
-    new : getD (set (s .readers) i r) i blank ≡ r
-    new = getD-set-same (s .readers) i r blank (omega (arith, g .sized, g .ok .head-ok .n-high))
-
-    old : (j : ℕ) → j ≢ i → getD (set (s .readers) i r) j blank ≡ getD (s .readers) j blank
-    old j e = getD-set-other (s .readers) i j r blank e
+    place : i < length (s .readers)
+    place = omega (arith, g .sized, g .ok .head-ok .n-high)
 
     -- the operations that count as open, in the old state and in the new one
     opens-with : (h′ : Head) → h′ .n ≡ s .head .n
         → openIn (withReader s i r h′) + one (asCounted (readerAt s i) .active) ≡ openIn s + one (asCounted r .active)
     opens-with h′ e =
-        let f : ℕ → Bool = λ j. asCounted (getD (set (s .readers) i r) j blank) .active in
+        let f : ℕ → Bool = λ j. asCounted (readerAt (withReader s i r h′) j) .active in
         rw e
         (omega (
           arith,
-          count-one (s .head .n) f (λ j. asCounted (readerAt s j) .active) i h (λ j e. ap (λ (x : Reader). asCounted x .active) (old j e)),
-          ap (λ (x : Reader). one (asCounted x .active)) new,
+          count-one (s .head .n) f (λ j. asCounted (readerAt s j) .active) i h (λ j e. ap (λ (x : Reader). asCounted x .active) (reader-other s i r h′ j e)),
+          ap (λ (x : Reader). one (asCounted x .active)) (reader-own s i r h′ place),
         ))
 
     with-reader : (used opens : ℕ) → R .readerOk (s .head .n) (asCounted r) ≡ true → s .head .used ≤ used
@@ -80,7 +75,9 @@ module _ (R : Rules) (s : State) (cells log : ℕ) (g : Good R s cells log) wher
       ok = record {
         head-ok = head-moves _ (s .head) (openIn s) cells log used opens _ l (omega (arith, e, g .ok .head-ok .opens-is, opens-with (headWith (s .head) used opens) refl)) f (g .ok .head-ok);
         writer-ok = g .ok .writer-ok;
-        readers-ok = λ j m. elim (ℕ-discrete j i) [ yes e ↦ rw (e, new) k | no e ↦ rw (old j e) (g .ok .readers-ok j m) ];
+        readers-ok =
+            each-place s i r (headWith (s .head) used opens) place (λ j x. j < s .head .n → R .readerOk (s .head .n) (asCounted x) ≡ true) (λ _. k)
+            (λ j _. g .ok .readers-ok j);
       };
     }
 

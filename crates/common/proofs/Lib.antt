@@ -2,6 +2,7 @@ pub mod HeadLaws
 pub mod LogRows
 pub mod Effects
 pub mod Lawful
+pub mod Replaced
 pub mod Asked
 pub mod Range
 pub mod Stands

@@ -13,7 +13,8 @@ use Rattle.common.specs.State.{readerAt, isRetired, asCounted, openIn}
 use Rattle.common.specs.Rules.{Rules, stateOk, InRange}
 use Rattle.common.specs.SetUp.{noState}
 use Rattle.common.proofs.HeadLaws.{head-in, in-head}
-use Rattle.common.proofs.Asked.{retired-at, counts}
+use Rattle.common.proofs.Replaced.{retired-at}
+use Rattle.common.proofs.Asked.{counts}
 
 module _ (R : Rules) (s : State) (cells log : ℕ) where
   abbrev head : Bool

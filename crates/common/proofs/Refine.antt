@@ -4,9 +4,7 @@ use mathlib.Core.Path.{_≡_, refl, sym, subst, ap, _∙_, fun-ext}
 use mathlib.Core.List.{List, [], _∷_, _++_}
 use mathlib.Core.Bool.{Bool, true, false, not}
 use native.Mathlib.Omega.{arith}
-use native.Mathlib.Decide.{ℕ-discrete}
 use lib.ListN.{length, set, drop}
-use lib.Seq.{getD-set-same, getD-set-other}
 use lib.Dec.{leb}
 use borrow.Author.Tests.{leb-true}
 use Rattle.words.specs.Choice.{pick}
@@ -24,14 +22,14 @@ use Rattle.common.specs.declared.Writer.{Writer}
 use Rattle.common.specs.declared.Reader.{Reader}
 use Rattle.common.specs.declared.State.{State}
 use Rattle.common.specs.Head.{isProcessor, hasRoom, headWith, began, freed}
-use Rattle.common.specs.State.{blank, readerAt, isRetired, stillOpen, asCounted, openIn, withWriter, withReader, writerBegins, readerBegins, retires, valueIn}
+use Rattle.common.specs.State.{readerAt, isRetired, stillOpen, asCounted, openIn, withWriter, withReader, writerBegins, readerBegins, retires, valueIn}
 use Rattle.common.specs.Rules.{WriteStep, ReadStep, Rules, stateOk}
 use Rattle.common.specs.SetUp.{Outcome, refused}
 use Rattle.common.specs.Register.{asProcessor, beginWriteOf, beginReadOf, stepWriter, stepReader, stepOf, retireOf, callOf}
 use Rattle.common.specs.Book.{Operation, idle, open-with, isOpen, Model, Turn, Telling, Told, openAt, openCount, declined, begun, ofProcessor, begins, beginsWrite, movesWrite, movesRead, withdrawn, told}
 use Rattle.common.proofs.LogRows.{rows-rel, row-same}
 use Rattle.common.proofs.Range.{range-test, reader-ok, reader-room, writer-room}
-use Rattle.common.proofs.Asked.{retired-at, retired-own, retired-other}
+use Rattle.common.proofs.Replaced.{retired-at, each-reader, each-retired}
 use Rattle.common.proofs.Keep.{Good}
 use Rattle.common.proofs.Lawful.{Lawful, WTurnRel, RTurnRel, Simulates}
 
@@ -105,6 +103,9 @@ module _ {Stamp Cell : Type 0} (R : Rules) (B : Telling Stamp Cell) (WIs : ℕ �
         retired-are = A .retired-are;
       }
 
+    place : (p : ℕ) → 1 ≤ p → p ≤ n → p - 1 < length (s .readers)
+    place p p1 pn = omega (arith, g .sized, g .ok .head-ok .n-high)
+
     -- The same of reader p, which is as retired as it was.
     module _ (p : ℕ) (p1 : 1 ≤ p) (pn : p ≤ n) (r : Reader) (a : Bool) (opens x : ℕ) (room : a ≡ false → s .head .used < s .head .rows) (t′ T′ : List ℕ) (te : t′ ≡ T′ ++ X)
         (sz : length T′ ≡ R .cells n) (st : Stamp) (q : Operation Cell) (k : RIs n r st q) (kept : r .retired ≡ readerAt s (p - 1) .retired) where
@@ -115,14 +116,11 @@ module _ {Stamp Cell : Type 0} (R : Rules) (B : Telling Stamp Cell) (WIs : ℕ �
         used-is = y .0;
         log-is = y .1;
         writer-is = rw (upd-other (b .stamp) p st 0 (omega arith), upd-other (b .op) p q 0 (omega arith)) (A .writer-is);
-        readers-are = λ j h1 h2. elim (ℕ-discrete j p) [
-          | yes e ↦ rw (e, getD-set-same (s .readers) (p - 1) r blank (omega (arith, g .sized, g .ok .head-ok .n-high)), upd-same (b .stamp) p st, upd-same (b .op) p q) k
-          | no e ↦ rw (getD-set-other (s .readers) (p - 1) (j - 1) r blank (omega arith), upd-other (b .stamp) p st j e, upd-other (b .op) p q j e) (A .readers-are j h1 h2)
-        ];
-        retired-are = λ j h. elim (ℕ-discrete j p) [
-          | yes e ↦ rw (e, retired-own s p r (after a opens) p1 (omega (arith, g .sized, g .ok .head-ok .n-high)), kept, ← retired-at s p (omega arith)) (A .retired-are p pn)
-          | no e ↦ retired-other s p r (after a opens) p1 j e ∙ A .retired-are j h
-        ];
+        readers-are =
+            each-reader s p r (after a opens) p1 (place p p1 pn) (λ j y. j ≤ n → RIs n y (upd (b .stamp) p st j) (upd (b .op) p q j))
+            (λ _. rw (upd-same (b .stamp) p st, upd-same (b .op) p q) k)
+            (λ j e j1 h. rw (upd-other (b .stamp) p st j e, upd-other (b .op) p q j e) (A .readers-are j j1 h));
+        retired-are = each-retired s p r (after a opens) p1 (place p p1 pn) (b .retired) n (kept ∙ sym (retired-at s p (omega arith)) ∙ A .retired-are p pn) (λ j _. A .retired-are j);
       }
 
     abbrev C : Outcome → Told Stamp Cell → Type 0
@@ -284,14 +282,12 @@ module _ {Stamp Cell : Type 0} (R : Rules) (B : Telling Stamp Cell) (WIs : ℕ �
           used-is = A .used-is;
           log-is = A .log-is;
           writer-is = A .writer-is;
-          readers-are = λ j h1 h2. elim (ℕ-discrete j p) [
-            | yes e ↦ rw (e, getD-set-same (s .readers) (p - 1) next blank (omega (arith, g .sized, g .ok .head-ok .n-high))) (S .retire-r n (readerAt s (p - 1)) (b .stamp p) (b .op p) (A .readers-are p p1 pn))
-            | no e ↦ rw (getD-set-other (s .readers) (p - 1) (j - 1) next blank (omega arith)) (A .readers-are j h1 h2)
-          ];
-          retired-are = λ j h. elim (ℕ-discrete j p) [
-            | yes e ↦ rw (e, upd-same (b .retired) p true) (retired-own s p next h′ p1 (omega (arith, g .sized, g .ok .head-ok .n-high)))
-            | no e ↦ rw (upd-other (b .retired) p true j e) (retired-other s p next h′ p1 j e ∙ A .retired-are j h)
-          ];
+          readers-are =
+              each-reader s p next h′ p1 (place p p1 pn) (λ j y. j ≤ n → RIs n y (b .stamp j) (b .op j))
+              (λ _. S .retire-r n (readerAt s (p - 1)) (b .stamp p) (b .op p) (A .readers-are p p1 pn)) (λ j _ j1. A .readers-are j j1);
+          retired-are =
+              each-retired s p next h′ p1 (place p p1 pn) (upd (b .retired) p true) n (sym (upd-same (b .retired) p true))
+              (λ j e h. A .retired-are j h ∙ sym (upd-other (b .retired) p true j e));
         }
 
     pub call-rel : (c : Call) → C (callOf R s t l c) (told B n (s .head .rows) b c)

@@ -17,7 +17,8 @@ use Rattle.common.specs.Rules.{Rules, stateOk, InRange}
 use Rattle.common.specs.SetUp.{Outcome}
 use Rattle.common.specs.Register.{beginWriteOf, beginReadOf, stepWriter, stepReader, stepOf, retireOf, callOf}
 use Rattle.common.proofs.Lawful.{Wired}
-use Rattle.common.proofs.Asked.{as-processor, retired-other}
+use Rattle.common.proofs.Replaced.{retired-other}
+use Rattle.common.proofs.Asked.{as-processor}
 use Rattle.common.proofs.Range.{test-range, reader-ok}
 
 module _ (R : Rules) (place : ℕ → ℕ → ℕ → ℕ) (Has : ℕ → ℕ → ℕ → Type 0) (D : Wired R place Has) (s : State) (t l : List ℕ) (p : ℕ)

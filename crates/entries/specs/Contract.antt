@@ -7,7 +7,7 @@ use Rattle.common.specs.declared.Answer.{Answer}
 use Rattle.common.specs.declared.State.{State}
 use Rattle.common.specs.SetUp.{Outcome}
 use Rattle.common.specs.Register as Register
-use Rattle.register.specs.Rules.{rulesOf}
+use Rattle.kinds.specs.Rules.{rulesOf}
 
 -- processor p begins: the writer, 0, a write of v, and a reader a read
 abbrev pub beginOf : State → List ℕ → List ℕ → ℕ → ℕ → Outcome

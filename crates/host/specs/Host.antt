@@ -5,7 +5,7 @@ use Rattle.words.specs.Bits.{low}
 use Rattle.common.specs.Answers.{numberOf}
 use Rattle.common.specs.Rules.{Rules}
 use Rattle.common.specs.SetUp.{setUpOf}
-use Rattle.register.specs.Run.{runWordsOf}
+use Rattle.lists.specs.Run.{runWordsOf}
 
 -- The number of set-up's refusal, or 0, in the upper half; below it the number of calls made, of which the lower half fits.
 unfoldable pub resultOf : Rules → ℕ → ℕ → ℕ → List ℕ → List ℕ → List ℕ → List ℕ → ℕ

@@ -5,7 +5,7 @@ ghost use mathlib.Core.Path.{_≡_};
 ghost use Prim.Native.Nat.{_+_, _*_, _^_, _≤_};
 ghost use Rattle.words.specs.Bits.{low};
 ghost use Rattle.common.specs.Answers.{numberOf};
-ghost use Rattle.register.specs.Run.{runWordsOf};
+ghost use Rattle.lists.specs.Run.{runWordsOf};
 ghost use Rattle.protocol.specs.Rules.{ticketRules};
 ghost use Rattle.counted.specs.Rules.{countedRules};
 ghost use Rattle.host.specs.Host.{resultOf};
@@ -28,7 +28,7 @@ fn result_word(a: Answer, made: usize) -> u64
     number(a) * 4294967296 + made as u64 % 4294967296
 }
 
-// A register of so many readers with a start reading, and the calls made on it (see register::run::run). The result's upper half is
+// A register of so many readers with a start reading, and the calls made on it (see lists::run). The result's upper half is
 // the number of set-up's refusal, or 0; its lower half is the number of calls made, modulo 2^32.
 #[no_mangle]
 pub extern "C" fn register_run(
@@ -44,13 +44,13 @@ pub extern "C" fn register_run(
     ensures log { λ r. ⌜ now (log .exit) ≡ runWordsOf ticketRules readers start 0 (now (calls .entry)) (now (table .entry)) (now (log .entry)) (now (answers .entry)) .log ⌝ }
     ensures answers { λ r. ⌜ now (answers .exit) ≡ runWordsOf ticketRules readers start 0 (now (calls .entry)) (now (table .entry)) (now (log .entry)) (now (answers .entry)) .places ⌝ }
 {
-    let ran = register::run::run(readers, start, calls, table, log, answers);
+    let ran = lists::run(readers, start, calls, table, log, answers);
     let answer = ran.answer;
     let made = ran.calls.made;
     result_word(answer, made)
 }
 
-// The same of the counted register, which has a fresh stamp too (see register::run::run_counted).
+// The same of the counted register, which has a fresh stamp too (see lists::run_counted).
 #[no_mangle]
 pub extern "C" fn counted_run(
     readers: u32,
@@ -66,7 +66,7 @@ pub extern "C" fn counted_run(
     ensures log { λ r. ⌜ now (log .exit) ≡ runWordsOf countedRules readers start fresh (now (calls .entry)) (now (table .entry)) (now (log .entry)) (now (answers .entry)) .log ⌝ }
     ensures answers { λ r. ⌜ now (answers .exit) ≡ runWordsOf countedRules readers start fresh (now (calls .entry)) (now (table .entry)) (now (log .entry)) (now (answers .entry)) .places ⌝ }
 {
-    let ran = register::run::run_counted(readers, start, fresh, calls, table, log, answers);
+    let ran = lists::run_counted(readers, start, fresh, calls, table, log, answers);
     let answer = ran.answer;
     let made = ran.calls.made;
     result_word(answer, made)

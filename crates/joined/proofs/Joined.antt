@@ -4,9 +4,9 @@ use Prim.Native.Nat.{ℕ, _^_, _<_}
 use mathlib.Core.Path.{_≡_, sym, subst}
 use mathlib.Core.List.{List}
 use native.Mathlib.Omega.{arith}
-use Rattle.judge.specs.Answer.{numberOf}
-use Rattle.judge.specs.Meaning.{Formed}
-use Rattle.judge.proofs.Meaning.{number-if-ordered, number-by-reports}
+use Rattle.judging.specs.Answer.{numberOf}
+use Rattle.judging.specs.Meaning.{Formed}
+use Rattle.judging.proofs.Meaning.{number-if-ordered, number-by-reports}
 use Rattle.common.specs.declared.Answer.the-variants.{Accepted}
 use Rattle.common.specs.Calls.{Call, LowCalls}
 use Rattle.common.specs.Rules.{Rules}

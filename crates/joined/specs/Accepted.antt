@@ -5,7 +5,7 @@ use mathlib.Core.List.{List}
 use lib.ListN.{take}
 use Rattle.history.specs.Regular.{IsAtomic}
 use Rattle.history.specs.Shrinking.{IsAtomicRun}
-use Rattle.judge.specs.Answer.{numberOf}
+use Rattle.judging.specs.Answer.{numberOf}
 use Rattle.common.specs.Calls.{Call}
 use Rattle.common.specs.Rules.{Rules}
 use Rattle.common.specs.Register.{ranFrom}

@@ -1,8 +1,8 @@
 // The judge for the boards' host, which is C: a log as bytes, eight a row, most significant first.
 use super::verdict::number;
 ghost use mathlib.Core.Path.{_≡_};
-ghost use Rattle.judge.specs.Answer.{bytesNumber};
-ghost use Rattle.judge.specs.Meaning.{BytesMean};
+ghost use Rattle.judging.specs.Answer.{bytesNumber};
+ghost use Rattle.judging.specs.Meaning.{BytesMean};
 
 // 0, or the number of the question answered no: 9, 10 or 12. A length that is not a multiple of 8 is 9.
 #[no_mangle]

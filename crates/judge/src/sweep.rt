@@ -6,14 +6,14 @@ use super::row::open_after;
 use super::row::processor;
 use super::row::suits_read;
 ghost use mathlib.Core.Path.{_≡_};
-ghost use Prim.Native.Nat.{_-_, _<_, _≤_, max};
+ghost use Prim.Native.Nat.{_-_, _<_, max};
 ghost use lib.Dec.{T};
 ghost use lib.ListN.{length};
 ghost use Rattle.history.specs.Search.{first};
 ghost use Rattle.history.specs.Sweep.{isSource, missing};
 ghost use Rattle.history.specs.WellFormed.{wellFormed};
 ghost use Rattle.history.specs.History.{historyOf};
-ghost use Rattle.judge.specs.Sweeping.{placeRow, floorAfter, missingAfter};
+ghost use Rattle.judging.specs.Sweeping.{placeRow, floorAfter, missingAfter};
 
 // Whether row q is the start row or the begin of a write, and the read that row k ends may stand behind it.
 fn is_source(rows: &[u64], k: usize, q: usize) -> bool

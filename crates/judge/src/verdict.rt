@@ -4,28 +4,15 @@ use super::order::decode_all;
 use super::order::put_keys;
 use super::row::is_begin;
 use super::sweep::first_missing;
+use judging::Verdict;
 ghost use mathlib.Core.Path.{_≡_};
 ghost use Prim.Native.Nat.{_<_, _≤_, _^_};
 ghost use lib.Dec.{ltb};
 ghost use lib.ListN.{length};
 ghost use Rattle.history.specs.Listing.{listing};
-ghost use Rattle.judge.specs.Answer.{rightLength, countAfter, beginsTo, answer, settledOf, answerOf, orderOf, numberOf};
-ghost use Rattle.judge.specs.Keys.{Put};
-ghost use Rattle.judge.specs.Meaning.{Means};
-
-// What the judge says of a log.
-pub enum Verdict {
-    // It has an order, of so many operations.
-    Accepted(usize),
-    // It has no rows, or more than 4,096.
-    WrongLength,
-    // Its rows are not well formed.
-    Malformed,
-    // There are fewer places than begin rows.
-    NoRoom,
-    // It has no order: the begin row of the first read with which it has none.
-    NoOrder(usize),
-}
+ghost use Rattle.judging.specs.Answer.{rightLength, countAfter, beginsTo, answer, settledOf, answerOf, orderOf, numberOf};
+ghost use Rattle.judging.specs.Keys.{Put};
+ghost use Rattle.judging.specs.Meaning.{Means};
 
 // Question 9.
 fn right_length(n: usize) -> bool

@@ -38,7 +38,7 @@ stamp-low x = omega arith
 
 -- A write's new ticket.
 module _ (n : ℕ) (w : Writer) (k : WriterInRange n w) (a : w .active ≡ true) (nh : n ≤ 16) where
-  few : w .moved ≡ n → ones (excludedBy w) ≤ 3 * n + 2
+  pub few : w .moved ≡ n → ones (excludedBy w) ≤ 3 * n + 2
   few e = omega (arith, k .few a (omega arith))
 
   ticket-low : n ≤ w .moved → ticketOf n w < 64

@@ -23,6 +23,7 @@ use Rattle.protocol.specs.Write.{writerReads, ticketOf, writeStep}
 use Rattle.protocol.specs.Reference.{Operation, Turn, ticketAfter, writeTurn, book}
 use Rattle.protocol.specs.Rules.{ticketRules}
 use Rattle.protocol.proofs.Table.{places}
+use Rattle.protocol.proofs.Laws.{few}
 use Rattle.protocol.proofs.ReaderRel.{RIs}
 use Rattle.protocol.proofs.Walk.{bars, bars-more, new-ticket}
 
@@ -54,7 +55,7 @@ module _ (n : ℕ) (nl : 1 ≤ n) (nh : n ≤ 16) (T X : List ℕ) (size : lengt
   -- the new ticket, when it is taken
   taken : m ≡ n → walkOn (3 * n + 2) (w .stamp .cur) (excludedBy w) ≡ ticketAfter n st cells
   taken e =
-      let h = ok .few (R .active-is) (omega arith) in
+      let h = few n w ok (R .active-is) nh e in
       let q : excludedBy w ≡ withTicket (withTicket (bars 0 cells) (st .cur)) (st .prev) = rw (R .excluded-is (omega arith), stamp-is) in
       rw (q, stamp-is) (new-ticket n st cells nh (R .length-is (omega arith) ∙ e) (omega (arith, ap ones q)))
 

@@ -1,6 +1,6 @@
 -- What a state in range gives the calls, and the calls' cases as the code takes them, for any rules.
 use Prim.Native.Nat.{ℕ, _+_, _-_, _≤_, _<_}
-use mathlib.Core.Path.{_≡_, refl, ap}
+use mathlib.Core.Path.{_≡_, ap}
 use mathlib.Core.Logic.{_≢_}
 use mathlib.Core.List.{List, _++_}
 use mathlib.Core.Bool.{Bool, true, false, _&&_}
@@ -24,13 +24,14 @@ use Rattle.common.specs.State.{readerAt, isRetired, asCounted, withWriter, with
 use Rattle.common.specs.Rules.{Rules, stateOk, InRange}
 use Rattle.common.specs.SetUp.{Outcome, refused, freshState, startRow, noState, setUpOf}
 use Rattle.common.specs.Register.{beginWriteOf, openRead, beginReadOf, stepWriter, stepReader, stepOpen, stepOf, retiring, retireOf}
-use Rattle.common.proofs.Range.{test-range, reader-open, reader-room, writer-open, writer-room}
+use Rattle.common.proofs.Range.{reader-open, reader-room, writer-open, writer-room}
 use Rattle.register.specs.declared.calls.Called.{Called}
-use Rattle.register.specs.declared.asked.Asked.{Asked}
-use Rattle.register.specs.declared.asked.Asked.the-variants.{Yes, No}
-use Rattle.register.specs.Asked.{askedOf}
-use Rattle.register.specs.Contract.{TableOk, writeStepped, readStepped, outcome}
-use Rattle.register.proofs.AskedLaws.{goes-on, turned-down}
+use Rattle.questions.specs.declared.asked.Asked.{Asked}
+use Rattle.questions.specs.declared.asked.Asked.the-variants.{Yes, No}
+use Rattle.questions.specs.Asked.{askedOf}
+use Rattle.steps.specs.Contract.{TableOk, writeStepped, readStepped}
+use Rattle.register.specs.Contract.{outcome}
+use Rattle.questions.proofs.Laws.{goes-on, turned-down}
 
 -- Equal outcomes have equal replies.
 pub with-reply : {o q : Outcome} → o ≡ q → (o ≡ q) × (reply (o .answer) ≡ reply (q .answer))
@@ -39,14 +40,6 @@ with-reply e = (e, ap (λ (o : Outcome). reply (o .answer)) e)
 pub gives : (c : Called) (a : Answer) (s : State) (t l : List ℕ) → c .answer ≡ a → c .state ≡ s
     → outcome c t l ≡ record { answer = a; state = s; table = t; log = l }
 gives c a s t l e f = λ i. record { answer = e i; state = f i; table = t; log = l }
-
--- More than 16 readers are out of range.
-pub many-readers : (R : Rules) (s : State) (cells log : ℕ) → 16 < s .head .n → false ≡ stateOk R s cells log
-many-readers R s cells log h = at (stateOk R s cells log) refl
-  where
-    at : (b : Bool) → stateOk R s cells log ≡ b → false ≡ b
-    at false e = refl
-    at true e = absurd (omega (arith, test-range R s cells log e .head-ok .n-high))
 
 module _ (R : Rules) (s : State) (cells log : ℕ) (k : InRange R s cells log) where
   pub table-in : TableOk R (s .head .n) cells

@@ -1,7 +1,3 @@
-mod Laws
-mod CountingLaws
-mod KindLaws
-mod AskedLaws
+mod FreshLaws
 pub mod CallLaws
 pub mod Passes
-mod RunLaws

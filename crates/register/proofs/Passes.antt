@@ -14,7 +14,7 @@ use Rattle.common.proofs.Keep.{passes-again}
 use Rattle.common.proofs.Kind.{kind-kept}
 use Rattle.protocol.proofs.Laws.{lawful}
 use Rattle.counted.proofs.Laws.{lawful as counted-lawful}
-use Rattle.register.specs.Rules.{rulesOf}
+use Rattle.kinds.specs.Rules.{rulesOf}
 
 lawful-by : (b : Bool) → Lawful (rulesOf b)
 lawful-by true = counted-lawful

@@ -1,4 +1,1 @@
-pub mod Rules
-pub mod Asked
 pub mod Contract
-pub mod Run

@@ -1,19 +1,19 @@
 // Begins, sub-steps and retirements, of either register.
-use super::asked::Asked;
-use super::asked::ask;
-use super::kinds::may_write;
-use super::kinds::read_step;
-use super::kinds::write_step;
-use super::range::state_ok;
+use super::rows::add_row;
 use common::Answer;
 use common::Refusal;
 use common::State;
 use common::limits::count_one;
 use common::limits::has_room;
-use common::rows::row_of;
-use reader::looks::value_in;
-use reader::state::open_reader;
-use reader::state::retire_reader;
+use kinds::may_write;
+use looks::value_in;
+use questions::asked::Asked;
+use questions::asked::ask;
+use questions::range::state_ok;
+use reader::open_reader;
+use reader::retire_reader;
+use steps::read_step;
+use steps::write_step;
 use writer::state::open_writer;
 ghost use mathlib.Core.Path.{_≡_};
 ghost use mathlib.Core.Bool.{true, false};
@@ -24,8 +24,8 @@ ghost use Rattle.common.specs.Answers.{reply};
 ghost use Rattle.common.specs.State.{readerAt, isRetired, withRetired};
 ghost use Rattle.common.specs.Rules.{InRange};
 ghost use Rattle.common.specs.Register.{beginWriteOf, openRead, beginReadOf, stepWriter, stepReader, stepOpen, stepOf, retireOf};
-ghost use Rattle.register.specs.Rules.{rulesOf};
-ghost use Rattle.register.specs.Asked.{Passed};
+ghost use Rattle.kinds.specs.Rules.{rulesOf};
+ghost use Rattle.questions.specs.Asked.{Passed};
 ghost use Rattle.register.specs.Contract.{outcome};
 
 // What a call gives: its answer, and the state to hand to the next one.
@@ -58,7 +58,7 @@ pub fn begin_write(s: State, table: &mut [u64], log: &mut [u64], value: u32) -> 
         if has_room(h) {
             if may_write(h.counted, w) {
                 let used = h.used;
-                log[used] = row_of(1, 0, value);
+                add_row(log, used, 1, 0, value);
                 let next = open_writer(w, value);
                 let mut state = s;
                 let more = used + 1;
@@ -91,7 +91,7 @@ fn open_read(s: State, table: &mut [u64], log: &mut [u64], p: u32) -> Called
     }
     if has_room(h) {
         let used = h.used;
-        log[used] = row_of(3, p as u8, 0);
+        add_row(log, used, 3, p as u8, 0);
         let next = open_reader(r);
         let mut state = s;
         let more = used + 1;
@@ -137,7 +137,7 @@ fn step_writer(s: State, table: &mut [u64], log: &mut [u64]) -> Called
         };
     }
     let used = h.used;
-    log[used] = row_of(2, 0, 0);
+    add_row(log, used, 2, 0, 0);
     let more = used + 1;
     state.head.used = more;
     let opens = h.opens - 1;
@@ -167,7 +167,7 @@ fn step_reader(s: State, table: &mut [u64], log: &mut [u64], p: u32) -> Called
         };
     }
     let used = h.used;
-    log[used] = row_of(4, p as u8, value_in(next.result));
+    add_row(log, used, 4, p as u8, value_in(next.result));
     let more = used + 1;
     state.head.used = more;
     let opens = h.opens - 1;

@@ -1,14 +1,15 @@
 // Set-up.
 use super::calls::Called;
-use super::kinds::cells_of;
-use super::kinds::other_word;
-use super::kinds::own_word;
+use super::rows::add_row;
 use common::Answer;
 use common::Head;
 use common::Refusal;
 use common::State;
-use common::rows::row_of;
-use reader::state::fresh_reader;
+use counted::Cell;
+use kinds::cells_of;
+use looks::result::plain_cell;
+use reader::fresh_reader;
+use words::stamp::Stamp;
 use writer::state::fresh_writer;
 ghost use mathlib.Core.Path.{_≡_};
 ghost use mathlib.Core.List.{_++_};
@@ -20,8 +21,36 @@ ghost use Rattle.common.specs.Answers.{reply};
 ghost use Rattle.common.specs.SetUp.{freshState, noState, setUpOf};
 ghost use Rattle.protocol.specs.Rules.{ticketRules};
 ghost use Rattle.counted.specs.Rules.{countedRules};
-ghost use Rattle.register.specs.Rules.{rulesOf};
-ghost use Rattle.register.specs.Contract.{outcome, freshWords};
+ghost use Rattle.kinds.specs.Rules.{rulesOf};
+ghost use Rattle.register.specs.Contract.{outcome, ownWord, otherWord, freshWords};
+
+// The word of a fresh cell from the writer.
+fn own_word(counted: bool, value: u32, fresh: u32) -> u64
+    ensures { λ r. ⌜ r ≡ ownWord counted value fresh ⌝ }
+{
+    if counted {
+        return parts::word::pack(Cell {
+            value: value,
+            stamp: fresh,
+        });
+    }
+    let stamp = Stamp { cur: 0, prev: 1 };
+    words::cell::pack(plain_cell(value, stamp))
+}
+
+// The word of any other fresh cell.
+fn other_word(counted: bool, fresh: u32) -> u64
+    ensures { λ r. ⌜ r ≡ otherWord counted fresh ⌝ }
+{
+    if counted {
+        return parts::word::pack(Cell {
+            value: 0,
+            stamp: fresh,
+        });
+    }
+    let none = words::stamp::no_stamp();
+    words::cell::pack(plain_cell(0, none))
+}
 
 fn fresh_word(i: usize, n: usize, own: u64, other: u64) -> u64
     ensures { λ r. ⌜ r ≡ pick (ltb i n) own other ⌝ }
@@ -74,8 +103,8 @@ fn no_set_up(counted: bool, why: Refusal) -> Called
     }
 }
 
-// A fresh register of a kind.
-pub(crate) fn set_up_of(
+// A fresh register of the kind that is told.
+pub fn set_up_of(
     counted: bool,
     n: u32,
     value: u32,
@@ -93,7 +122,7 @@ pub(crate) fn set_up_of(
                 let own = own_word(counted, value, fresh);
                 let other = other_word(counted, fresh);
                 fill(table, n as usize, cells, own, other);
-                log[0] = row_of(5, n as u8, value);
+                add_row(log, 0, 5, n as u8, value);
                 let state = fresh_state(counted, n, fresh, rows);
                 return Called {
                     answer: Answer::Accepted,

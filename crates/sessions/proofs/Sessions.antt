@@ -13,8 +13,8 @@ use Rattle.history.specs.History
 use Rattle.history.specs.Sweep
 use Rattle.history.specs.Listing
 use Rattle.history.specs.Chosen
-use Rattle.judge.specs.Fold
-use Rattle.judge.specs.Answer
+use Rattle.judging.specs.Fold
+use Rattle.judging.specs.Answer
 use Rattle.common.specs.Head
 use Rattle.common.specs.Rules
 use Rattle.common.specs.SetUp

@@ -13,7 +13,7 @@ use Rattle.words.specs.Cell.{packCell, unpackCell}
 use Rattle.words.specs.Row.{packRow, unpackRow}
 use Rattle.history.specs.History.{historyOf}
 use Rattle.history.specs.Chosen.{chosen, readsFrom, regular, uninverted}
-use Rattle.judge.specs.Answer.{answerOf, orderOf}
+use Rattle.judging.specs.Answer.{answerOf, orderOf}
 use Rattle.common.specs.declared.Answer.{Answer}
 use Rattle.common.specs.declared.Writer.{Writer}
 use Rattle.common.specs.declared.State.{State}

@@ -4,9 +4,9 @@ mod sum; // the generator and the checksum
 mod source; // the calls of a round
 mod rounds; // a round: set-up, the calls, and the judge on the used rows
 
+use fields::NONE;
+use fields::number_in;
 use libc::STDOUT_FILENO;
-use lines::fields::NONE;
-use lines::fields::number_in;
 use rounds::round;
 use sum::SEED;
 ghost use Prim.Native.Nat.{_≤_};

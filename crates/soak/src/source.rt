@@ -3,7 +3,7 @@
 use super::sum::mix;
 ghost use Prim.Native.Nat.{_<_, _≤_};
 
-// Calls as words, as `register::run::run` takes them.
+// Calls as words, as `lists::run` takes them.
 const WRITE: u64 = 0x1_0000_0000;
 
 const READ: u64 = 0x2_0000_0000;

@@ -1,4 +1,4 @@
-// Begins, sub-steps and retirements, each watched. A call is a word, as for `register::run::run`: above, 1 begins a write, 2 a read, 3 is a
+// Begins, sub-steps and retirements, each watched. A call is a word, as for `lists::run`: above, 1 begins a write, 2 a read, 3 is a
 // sub-step, 4 retires a reader; below, the number.
 use super::same::copy;
 use super::same::same;
@@ -14,23 +14,29 @@ use entries::kept::step;
 use register::calls::Called;
 use register::calls::begin_read;
 
-// Through the entries over a lent state. To them processor 0 is the writer, so a read by processor 0 is begun by value.
+// The processor that begins: a reader a read, and the writer a write.
+fn beginner(kind: u64, number: u32) -> u32 {
+    if kind == 2 {
+        return number;
+    }
+    0
+}
+
+// Through the entries over a lent state. To them processor 0 is the writer, so a read by processor 0 is begun by value; for a read the
+// value is not looked at.
 fn make_call(word: u64, s: State, table: &mut [u64], log: &mut [u64]) -> Called {
     let kind = word / 4294967296;
     let number = (word % 4294967296) as u32;
-    if kind == 1 {
-        return begin(s, table, log, 0, number);
-    }
-    if kind == 2 {
-        if number == 0 {
-            return begin_read(s, table, log, number);
-        }
-        return begin(s, table, log, number, 0);
-    }
     if kind == 3 {
         return step(s, table, log, number);
     }
-    retire(s, table, log, number)
+    if kind == 4 {
+        return retire(s, table, log, number);
+    }
+    if (kind == 2) & (number == 0) {
+        return begin_read(s, table, log, number);
+    }
+    begin(s, table, log, beginner(kind, number), number)
 }
 
 fn print_call(word: u64) {
@@ -62,8 +68,21 @@ fn print_altered(answer: Answer, unaltered: bool) {
     }
 }
 
-// Makes a call and prints what it is, its answer and, if it is refused, whether state, table and log are as before.
-pub(crate) fn try_call(word: u64, s: State, table: &mut [u64], log: &mut [u64]) -> State {
+fn print_called(word: u64, answer: Answer, unaltered: bool) {
+    print_call(word);
+    print(b": ");
+    print_answer(answer);
+    print_altered(answer, unaltered);
+}
+
+// Makes a call. If it is not quiet, prints what it is, its answer and, if it is refused, whether state, table and log are as before.
+pub(crate) fn try_call(
+    quiet: bool,
+    word: u64,
+    s: State,
+    table: &mut [u64],
+    log: &mut [u64],
+) -> State {
     let mut cells = [0u64; 306];
     let mut rows = [0u64; 4097];
     copy(table, &mut cells);
@@ -71,12 +90,12 @@ pub(crate) fn try_call(word: u64, s: State, table: &mut [u64], log: &mut [u64]) 
     let o = make_call(word, s, table, log);
     let answer = o.answer;
     let state = o.state;
+    if quiet {
+        return state;
+    }
     let cells_same = same(table, &cells);
     let rows_same = same(log, &rows);
     let state_same = same_state(s, state);
-    print_call(word);
-    print(b": ");
-    print_answer(answer);
-    print_altered(answer, cells_same & rows_same & state_same);
+    print_called(word, answer, cells_same & rows_same & state_same);
     state
 }

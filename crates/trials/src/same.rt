@@ -5,11 +5,11 @@ use common::State;
 use common::Writer;
 use words::stamp::equal;
 ghost use mathlib.Core.Path.{_≡_};
-ghost use Prim.Native.Nat.{_≤_};
+ghost use Prim.Native.Nat.{_≤_, min};
 ghost use lib.ListN.{length};
 
 // What buffers hold before anything is written to them: no cell, no row and no begin row.
-pub(crate) const MARK: u64 = 0xFFFF_FFFF_FFFF_FFFF;
+const MARK: u64 = 0xFFFF_FFFF_FFFF_FFFF;
 
 // A buffer of marks.
 pub(crate) fn marks() -> [u64; 4097]
@@ -19,7 +19,7 @@ pub(crate) fn marks() -> [u64; 4097]
 }
 
 pub(crate) fn fewer(a: usize, b: usize) -> usize
-    ensures { λ r. ⌜ (r ≤ a) × (r ≤ b) ⌝ }
+    ensures { λ r. ⌜ r ≡ min a b ⌝ }
 {
     if a < b {
         return a;

@@ -8,6 +8,10 @@ pub(crate) fn print(words: &[u8]) {
     io::write_all(STDOUT_FILENO, words);
 }
 
+pub(crate) fn print_number(number: u64) {
+    io::print_decimal(STDOUT_FILENO, number);
+}
+
 // Words and a number.
 pub(crate) fn print_with(words: &[u8], number: u64) {
     io::write_all(STDOUT_FILENO, words);

@@ -7,13 +7,13 @@ use mathlib.Core.List.{List}
 use lib.ListN.{length}
 use borrow.Author.Tests.{eq-eqb, ne-eqb}
 use Rattle.logbytes.specs.Bytes.{rowsOf}
-use Rattle.judge.specs.Answer.{answer}
-use Rattle.judge.specs.Meaning.{Fits}
-use Rattle.judge.specs.declared.verdict.Verdict.{Verdict}
-use Rattle.judge.specs.declared.verdict.Verdict.the-variants.{WrongLength}
-use Rattle.judge.proofs.ByteLaws.{rows-length}
-use Rattle.judge.proofs.Meaning.{Says, fits}
-use Rattle.judge.proofs.Said.{says-9}
+use Rattle.judging.specs.Answer.{answer}
+use Rattle.judging.specs.Meaning.{Fits}
+use Rattle.judging.specs.declared.Verdict.{Verdict}
+use Rattle.judging.specs.declared.Verdict.the-variants.{WrongLength}
+use Rattle.judging.proofs.ByteLaws.{rows-length}
+use Rattle.judging.proofs.Meaning.{Says, fits}
+use Rattle.judging.proofs.Said.{says-9}
 use Rattle.verdict.specs.Log.{logAnswer, logOrder}
 
 -- what judge_log says

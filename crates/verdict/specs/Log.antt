@@ -5,7 +5,7 @@ use lib.Dec.{eqb}
 use lib.ListN.{length}
 use Rattle.words.specs.Choice.{pick}
 use Rattle.logbytes.specs.Bytes.{rowsOf}
-use Rattle.judge.specs.Answer.{Answer, refused, answerOf, orderOf}
+use Rattle.judging.specs.Answer.{Answer, refused, answerOf, orderOf}
 
 unfoldable pub logAnswer : List ℕ → ℕ → Answer
 logAnswer b places = pick (eqb (length b % 8) 0) (answerOf (rowsOf b) places) (refused 9)

@@ -1,10 +1,10 @@
 // The verdict on a log as bytes.
-use judge::verdict::Verdict;
+use judging::Verdict;
 ghost use mathlib.Core.Path.{_≡_};
 ghost use lib.ListN.{length};
-ghost use Rattle.judge.specs.Answer.{answer};
+ghost use Rattle.judging.specs.Answer.{answer};
 ghost use Rattle.verdict.specs.Log.{logAnswer, logOrder};
-ghost use Rattle.judge.specs.Meaning.{Fits};
+ghost use Rattle.judging.specs.Meaning.{Fits};
 
 // The verdict, and the order in the lent places.
 pub(crate) fn judge_log(bytes: &[u8], order: &mut [u64]) -> Verdict

@@ -1,6 +1,6 @@
 // The line of a verdict.
 use super::log::judge_log;
-use judge::verdict::Verdict;
+use judging::Verdict;
 use libc::STDOUT_FILENO;
 
 fn print_order(order: &[u64]) {

@@ -2,7 +2,7 @@ use mathlib.Core.Path.{ap}
 use native.Mathlib.Omega.{arith}
 use borrow.Author.Needs.{needs}
 use Rattle.common.specs.Answers.{numberOf}
-use Rattle.register.specs.Run.{MadeCalls}
+use Rattle.lists.specs.Run.{MadeCalls}
 use Rattle.host.specs.Host.{resultOf}
 use Rattle.host.proofs.counted_run.Statement.{statement}
 use Rattle.host.proofs.counted_run.Tie as tie

@@ -1,9 +1,9 @@
 use mathlib.Core.Path.{subst}
 use denote.Ref.{now}
 use lib.ListN.{replicate}
-use Rattle.judge.specs.declared.verdict.Verdict.{Verdict}
-use Rattle.judge.specs.Meaning.{Fits}
-use Rattle.judge.proofs.Meaning.{fits}
+use Rattle.judging.specs.declared.Verdict.{Verdict}
+use Rattle.judging.specs.Meaning.{Fits}
+use Rattle.judging.proofs.Meaning.{fits}
 use borrow.Author.Needs.{needs}
 use Rattle.bench.proofs.order.print_verdict.Statement.{statement}
 use Rattle.bench.proofs.order.print_verdict.Tie as tie

@@ -1,4 +1,4 @@
-use Rattle.lines.proofs.ScriptLaws.{reads-fit}
+use Rattle.script.proofs.ScriptLaws.{reads-fit}
 use Rattle.bench.proofs.Laws.{words-length}
 use lib.Dec.{ltb}
 use native.Mathlib.Omega.{arith}

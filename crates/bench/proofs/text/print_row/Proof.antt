@@ -1,5 +1,5 @@
 use Rattle.bench.proofs.Laws.{eighty}
-use Rattle.lines.proofs.ListingLaws.{within}
+use Rattle.listing.proofs.ListingLaws.{within}
 use borrow.Author.Needs.{needs}
 use Rattle.bench.proofs.text.print_row.Statement.{statement}
 use Rattle.bench.proofs.text.print_row.Tie as tie

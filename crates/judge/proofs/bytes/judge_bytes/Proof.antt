@@ -3,9 +3,9 @@ use native.Mathlib.Omega.{arith}
 use denote.Ref.{now}
 use borrow.Author.Needs.{needs}
 use borrow.Author.Tests.{eq-eqb, ne-eqb}
-use Rattle.judge.specs.Answer.{numberOf, bytesNumber}
-use Rattle.judge.proofs.ByteLaws.{rows-front, rows-length, too-long}
-use Rattle.judge.proofs.Meaning.{bytes-says}
+use Rattle.judging.specs.Answer.{numberOf, bytesNumber}
+use Rattle.judging.proofs.ByteLaws.{rows-front, rows-length, too-long}
+use Rattle.judging.proofs.Meaning.{bytes-says}
 use Rattle.judge.proofs.bytes.judge_bytes.Statement.{statement}
 use Rattle.judge.proofs.bytes.judge_bytes.Tie as tie
 

@@ -3,8 +3,8 @@ use borrow.Author.Needs.{needs}
 use mathlib.Core.Path.{sym, _∙_}
 use Prim.Native.Nat.{_-_}
 use lib.ListN.{length}
-use Rattle.judge.proofs.Steps.{formed-head}
-use Rattle.judge.proofs.Checks.{Checked, checked-start, checked-all, wrong-fields, checked-in, wrong-turn, checked-next}
+use Rattle.judging.proofs.Steps.{formed-head}
+use Rattle.judging.proofs.Checks.{Checked, checked-start, checked-all, wrong-fields, checked-in, wrong-turn, checked-next}
 use Rattle.judge.specs.Frame.{KeepsLittle}
 use Rattle.judge.proofs.formed.well_formed.Code.{function}
 use Rattle.judge.proofs.formed.well_formed.Statement.{statement}

@@ -6,10 +6,10 @@ use lib.Dec.{T}
 use lib.ListN.{length}
 use denote.Ref.{now}
 use Rattle.history.specs.WellFormed.{wellFormed}
-use Rattle.judge.specs.Sweeping.{Sweep, freshSweep, sweepTo}
-use Rattle.judge.proofs.Steps.{sweep-one}
-use Rattle.judge.proofs.Linked.{missing-is}
-use Rattle.judge.proofs.Loops.{Sweeps, sweeps-start, processor-in, sweeps-next, missing-step}
+use Rattle.judging.specs.Sweeping.{Sweep, freshSweep, sweepTo}
+use Rattle.judging.proofs.Steps.{sweep-one}
+use Rattle.judging.proofs.Linked.{missing-is}
+use Rattle.judging.proofs.Loops.{Sweeps, sweeps-start, processor-in, sweeps-next, missing-step}
 use Rattle.judge.specs.Frame.{KeepsLittle}
 use Rattle.judge.proofs.sweep.first_missing.Code.{function}
 use Rattle.judge.proofs.sweep.first_missing.Statement.{statement}

@@ -1,6 +1,6 @@
 use borrow.Author.Needs.{needs}
 use mathlib.Core.Path.{sym, _∙_}
-use Rattle.judge.specs.Answer.{countAfter}
+use Rattle.judging.specs.Answer.{countAfter}
 use Rattle.judge.specs.Frame.{KeepsLittle}
 use Rattle.judge.proofs.verdict.count_after.Code.{function}
 use Rattle.judge.proofs.verdict.count_after.Statement.{statement}

@@ -4,8 +4,8 @@ use mathlib.Core.Path.{_≡_, sym, ap, _∙_}
 use Prim.Native.Nat.{_≤_, _<_, _-_}
 use lib.ListN.{length, getD}
 use denote.Ref.{now}
-use Rattle.judge.specs.Answer.{beginsTo}
-use Rattle.judge.proofs.Steps.{begins-suc, begins-one, count-le}
+use Rattle.judging.specs.Answer.{beginsTo}
+use Rattle.judging.proofs.Steps.{begins-suc, begins-one, count-le}
 use Rattle.judge.specs.Frame.{KeepsLittle}
 use Rattle.judge.proofs.verdict.count_begins.Code.{function}
 use Rattle.judge.proofs.verdict.count_begins.Statement.{statement}

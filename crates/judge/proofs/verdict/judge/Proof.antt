@@ -3,7 +3,7 @@ use mathlib.Core.Path.{refl}
 use mathlib.Core.List.{[], _∷_}
 use types.Run.{miss}
 use denote.Ref.{now}
-use Rattle.judge.proofs.Said.{none-no, says-refused, says-yes}
+use Rattle.judging.proofs.Said.{none-no, says-refused, says-yes}
 use Rattle.judge.specs.Frame.{KeepsLittle, SettlesFirst}
 use Rattle.judge.proofs.verdict.judge.Code.{function}
 use Rattle.judge.proofs.verdict.judge.Statement.{statement}

@@ -5,8 +5,8 @@ use mathlib.Core.Path.{sym, ap}
 use lib.Dec.{ltb}
 use lib.ListN.{length}
 use denote.Ref.{now}
-use Rattle.judge.specs.Answer.{beginsTo}
-use Rattle.judge.proofs.Steps.{begins-few}
+use Rattle.judging.specs.Answer.{beginsTo}
+use Rattle.judging.proofs.Steps.{begins-few}
 use Rattle.judge.specs.Frame.{KeepsLittle}
 use Rattle.judge.proofs.verdict.lacks_room.Code.{function}
 use Rattle.judge.proofs.verdict.lacks_room.Statement.{statement}

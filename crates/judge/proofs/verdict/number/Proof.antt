@@ -1,8 +1,8 @@
 use borrow.Author.Needs.{needs}
 use mathlib.Core.Path.{ap, _∙_}
 use denote.Ref.{now}
-use Rattle.judge.specs.Answer.{Answer}
-use Rattle.judge.proofs.Said.{number-settled}
+use Rattle.judging.specs.Answer.{Answer}
+use Rattle.judging.proofs.Said.{number-settled}
 use Rattle.judge.proofs.verdict.number.Statement.{statement}
 use Rattle.judge.proofs.verdict.number.Tie as tie
 

@@ -2,9 +2,9 @@ use native.Mathlib.Omega.{arith}
 use borrow.Author.Needs.{needs}
 use mathlib.Core.Path.{refl, sym, ap, _∙_}
 use denote.Ref.{now}
-use Rattle.judge.specs.Answer.{noOrder}
-use Rattle.judge.proofs.Asked.{right→, wrong, formed-is, lacking, enough, no9, no10, no11, no12, none}
-use Rattle.judge.proofs.Said.{settled-is}
+use Rattle.judging.specs.Answer.{noOrder}
+use Rattle.judging.proofs.Asked.{right→, wrong, formed-is, lacking, enough, no9, no10, no11, no12, none}
+use Rattle.judging.proofs.Said.{settled-is}
 use Rattle.judge.specs.Frame.{KeepsLittle, LentNothing}
 use Rattle.judge.proofs.verdict.settle.Code.{function}
 use Rattle.judge.proofs.verdict.settle.Statement.{statement}

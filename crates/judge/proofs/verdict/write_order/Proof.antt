@@ -6,11 +6,11 @@ use mathlib.Core.List.{List, map}
 use lib.ListN.{length, length-map}
 use denote.Ref.{now}
 use Rattle.history.specs.Listing.{listing}
-use Rattle.judge.specs.Answer.{laid}
-use Rattle.judge.specs.Keys.{keysOf, decode}
-use Rattle.judge.proofs.Listed.{listed}
-use Rattle.judge.proofs.Places.{laid-ge, decoded, decoded-laid}
-use Rattle.judge.proofs.Said.{settled}
+use Rattle.judging.specs.Answer.{laid}
+use Rattle.judging.specs.Keys.{keysOf, decode}
+use Rattle.judging.proofs.Listed.{listed}
+use Rattle.judging.proofs.Places.{laid-ge, decoded, decoded-laid}
+use Rattle.judging.proofs.Said.{settled}
 use Rattle.judge.specs.Frame.{KeepsLittle}
 use Rattle.judge.proofs.verdict.write_order.Code.{function}
 use Rattle.judge.proofs.verdict.write_order.Statement.{statement}

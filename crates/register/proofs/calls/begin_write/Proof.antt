@@ -15,35 +15,29 @@ returns c =
     (gives (c .refuse .result) _ (a .s) _ _ (c .refuse .ensures .0) (c .refuse .ensures .1)
     ∙ write-busy _ (a .s) (now (a .table)) (now (a .log)) (a .value) e (c .before .if2 .taken))
 
-mul-log : tie.Need-mul-log
-mul-log c =
+add-row-requires : tie.Need-add-row-requires
+add-row-requires c κs =
     let s = c .before .before .before .before .before .before .before .before .before .before .before .before .args .s in
-    omega (arith, few-rows _ s _ _ (test-range _ s _ _ (sym (c .before .before .before .before .before .before .before .before .before .state-ok .ensures) ∙ c .before .before .before .before .before .before .before .before .if1 .taken)))
-
-slice-write-log : tie.Need-slice-write-log
-slice-write-log c =
-    let s = c .before .before .before .before .before .before .before .before .before .before .before .before .args .s in
-    let k = test-range _ s _ _ (sym (c .before .before .before .before .before .before .before .before .before .state-ok .ensures) ∙ c .before .before .before .before .before .before .before .before .if1 .taken) in
-    begin-row _ s _ _ k (sym (c .before .before .before .before .has-room .ensures) ∙ c .before .before .before .if3 .taken)
+    begin-row _ s _ _ (test-range _ s _ _ (sym (c .before .before .before .before .before .before .before .before .before .state-ok .ensures) ∙ c .before .before .before .before .before .before .before .before .if1 .taken)) (sym (c .before .before .before .before .has-room .ensures) ∙ c .before .before .before .if3 .taken)
 
 add-more : tie.Need-add-more
 add-more c =
-    let s = c .before .before .before .before .before .before .before .before .before .before .before .before .before .args .s in
-    omega (arith, few-rows _ s _ _ (test-range _ s _ _ (sym (c .before .before .before .before .before .before .before .before .before .before .state-ok .ensures) ∙ c .before .before .before .before .before .before .before .before .before .if1 .taken)))
+    let s = c .before .before .before .before .before .before .before .before .before .before .before .before .before .before .before .before .args .s in
+    omega (arith, few-rows _ s _ _ (test-range _ s _ _ (sym (c .before .before .before .before .before .before .before .before .before .before .before .before .before .state-ok .ensures) ∙ c .before .before .before .before .before .before .before .before .before .before .before .before .if1 .taken)))
 
 add-opens : tie.Need-add-opens
 add-opens c =
-    let s = c .before .before .before .before .before .before .before .before .before .before .before .before .before .before .before .args .s in
-    omega (arith, few-open _ s _ _ (test-range _ s _ _ (sym (c .before .before .before .before .before .before .before .before .before .before .before .before .state-ok .ensures) ∙ c .before .before .before .before .before .before .before .before .before .before .before .if1 .taken)))
+    let s = c .before .before .before .before .before .before .before .before .before .before .before .before .before .before .before .before .before .before .args .s in
+    omega (arith, few-open _ s _ _ (test-range _ s _ _ (sym (c .before .before .before .before .before .before .before .before .before .before .before .before .before .before .before .state-ok .ensures) ∙ c .before .before .before .before .before .before .before .before .before .before .before .before .before .before .if1 .taken)))
 
 returns-2 : tie.Need-returns-2
 returns-2 c =
-    let a = c .before .before .before .before .before .before .before .before .before .before .before .before .before .before .before .before .args in
-    let e = sym (c .before .before .before .before .before .before .before .before .before .before .before .before .before .state-ok .ensures) ∙ c .before .before .before .before .before .before .before .before .before .before .before .before .if1 .taken in
-    let h = sym (c .before .before .before .before .before .before .before .before .has-room .ensures) ∙ c .before .before .before .before .before .before .before .if3 .taken in
+    let a = c .before .before .before .before .before .before .before .before .before .before .before .before .before .before .before .before .before .before .before .args in
+    let e = sym (c .before .before .before .before .before .before .before .before .before .before .before .before .before .before .before .before .state-ok .ensures) ∙ c .before .before .before .before .before .before .before .before .before .before .before .before .before .before .before .if1 .taken in
+    let h = sym (c .before .before .before .before .before .before .before .before .before .before .before .has-room .ensures) ∙ c .before .before .before .before .before .before .before .before .before .before .if3 .taken in
     with-reply
-    (rw (c .before .before .before .before .row-of .ensures, c .before .before .before .open-writer .ensures)
-    (write-begins _ (a .s) (now (a .table)) (now (a .log)) (a .value) e (c .before .before .before .before .before .before .before .before .before .before .if2 .left) h (sym (c .before .before .before .before .before .before .may-write .ensures) ∙ c .before .before .before .before .before .if4 .taken)))
+    (rw (c .before .before .before .before .before .before .add-row .ensures, c .before .before .before .open-writer .ensures)
+    (write-begins _ (a .s) (now (a .table)) (now (a .log)) (a .value) e (c .before .before .before .before .before .before .before .before .before .before .before .before .before .if2 .left) h (sym (c .before .before .before .before .before .before .before .before .before .may-write .ensures) ∙ c .before .before .before .before .before .before .before .before .if4 .taken)))
 
 returns-3 : tie.Need-returns-3
 returns-3 c =
@@ -79,9 +73,7 @@ begin-write-spec =
     returns
     (λ c κs. search needs)
     (λ c κs. search needs)
-    (λ c κs. search needs)
-    mul-log
-    slice-write-log
+    add-row-requires
     (λ c κs. search needs)
     add-more
     add-opens

@@ -18,32 +18,29 @@ returns c =
     gives (c .refuse .result) _ (a .t1) _ _ (c .refuse .ensures .0) (c .refuse .ensures .1)
     ∙ read-busy (a .t1) (now (a .table)) (now (a .log)) (a .p) (c .before .if1 .taken)
 
-cast-row-of : tie.Need-cast-row-of
-cast-row-of c = let k = c .before .before .before .before .before .before .before .pre in omega (arith, k .p-high, k .in-range .head-ok .n-high)
+cast-add-row : tie.Need-cast-add-row
+cast-add-row c = let k = c .before .before .before .before .before .before .before .before .pre in omega (arith, k .p-high, k .in-range .head-ok .n-high)
 
-mul-log : tie.Need-mul-log
-mul-log c = omega (arith, few-rows _ (c .before .before .before .before .before .before .before .before .args .t1) _ _ (c .before .before .before .before .before .before .before .before .pre .in-range))
-
-slice-write-log : tie.Need-slice-write-log
-slice-write-log c =
+add-row-requires : tie.Need-add-row-requires
+add-row-requires c κs =
     let s = c .before .before .before .before .before .before .before .before .args .t1 in
     begin-row _ s _ _ (c .before .before .before .before .before .before .before .before .pre .in-range) (sym (c .before .before .has-room .ensures) ∙ c .before .if2 .taken)
 
 add-more : tie.Need-add-more
-add-more c = omega (arith, few-rows _ (c .before .before .before .before .before .before .before .before .before .args .t1) _ _ (c .before .before .before .before .before .before .before .before .before .pre .in-range))
+add-more c = omega (arith, few-rows _ (c .before .before .before .before .before .before .before .before .before .before .before .before .args .t1) _ _ (c .before .before .before .before .before .before .before .before .before .before .before .before .pre .in-range))
 
 add-opens : tie.Need-add-opens
-add-opens c = omega (arith, few-open _ (c .before .before .before .before .before .before .before .before .before .before .before .args .t1) _ _ (c .before .before .before .before .before .before .before .before .before .before .before .pre .in-range))
+add-opens c = omega (arith, few-open _ (c .before .before .before .before .before .before .before .before .before .before .before .before .before .before .args .t1) _ _ (c .before .before .before .before .before .before .before .before .before .before .before .before .before .before .pre .in-range))
 
 element-set-from-next : tie.Need-element-set-from-next
-element-set-from-next c = let k = c .before .before .before .before .before .before .before .before .before .before .before .before .pre in omega (arith, k .p-low, k .p-high, k .in-range .head-ok .n-high)
+element-set-from-next c = let k = c .before .before .before .before .before .before .before .before .before .before .before .before .before .before .before .pre in omega (arith, k .p-low, k .p-high, k .in-range .head-ok .n-high)
 
 returns-2 : tie.Need-returns-2
 returns-2 c =
-    let a = c .before .before .before .before .before .before .before .before .before .before .before .before .args in
-    let h = sym (c .before .before .before .before .before .before .has-room .ensures) ∙ c .before .before .before .before .before .if2 .taken in
-    rw (c .before .before .before .before .row-of .ensures, c .before .before .before .open-reader .ensures)
-    (read-begins (a .t1) (now (a .table)) (now (a .log)) (a .p) (c .before .before .before .before .before .before .before .if1 .left) h)
+    let a = c .before .before .before .before .before .before .before .before .before .before .before .before .before .before .before .args in
+    let h = sym (c .before .before .before .before .before .before .before .before .before .has-room .ensures) ∙ c .before .before .before .before .before .before .before .before .if2 .taken in
+    rw (c .before .before .before .before .before .before .add-row .ensures, c .before .before .before .open-reader .ensures)
+    (read-begins (a .t1) (now (a .table)) (now (a .log)) (a .p) (c .before .before .before .before .before .before .before .before .before .before .if1 .left) h)
 
 returns-3 : tie.Need-returns-3
 returns-3 c =
@@ -62,10 +59,8 @@ open-read-spec =
     (λ c κs. search needs)
     returns
     (λ c κs. search needs)
-    cast-row-of
-    (λ c κs. search needs)
-    mul-log
-    slice-write-log
+    cast-add-row
+    add-row-requires
     (λ c κs. search needs)
     add-more
     add-opens

@@ -1,4 +1,4 @@
-use Rattle.register.proofs.AskedLaws.{passed}
+use Rattle.questions.proofs.Laws.{passed}
 use Rattle.register.proofs.CallLaws.{with-reply, gives, retire-asked, retire-refused}
 use Rattle.common.proofs.Range.{reader-open}
 use mathlib.Core.Path.{_∙_}

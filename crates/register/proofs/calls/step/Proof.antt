@@ -1,4 +1,4 @@
-use Rattle.register.proofs.AskedLaws.{passed}
+use Rattle.questions.proofs.Laws.{passed}
 use Rattle.register.proofs.CallLaws.{with-reply, gives, step-asked, step-refused}
 use mathlib.Core.Path.{_∙_}
 use denote.Ref.{now}

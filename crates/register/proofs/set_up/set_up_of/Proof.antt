@@ -1,6 +1,7 @@
-use Rattle.register.proofs.KindLaws.{cells-low, fresh-words, kind-is}
+use Rattle.kinds.proofs.Laws.{cells-low, kind-is}
+use Rattle.register.proofs.FreshLaws.{fresh-words}
 use Rattle.register.proofs.CallLaws.{gives, no-readers, no-cells, no-rows, all-set}
-use Rattle.register.specs.Rules.{rulesOf}
+use Rattle.kinds.specs.Rules.{rulesOf}
 use Rattle.common.specs.SetUp.{noState}
 use Rattle.words.proofs.Laws.Choice.{left, right}
 use borrow.Author.Tests.{leb-true}
@@ -19,22 +20,23 @@ fill-requires c κs =
     let h = leb-true 1 (a .n) (left (leb 1 (a .n)) _ (c .before .before .before .before .before .before .if1 .taken)) in
     (omega (arith, cells-low (a .counted) (a .n) h, c .before .before .before .before .before .cells-of .ensures), c .before .before .before .before .if2 .taken)
 
-cast-row-of : tie.Need-cast-row-of
-cast-row-of c =
-    let a = c .before .before .before .before .before .before .before .before .before .before .before .before .args in
-    omega (arith, leb-true (a .n) 16 (right (leb 1 (a .n)) _ (c .before .before .before .before .before .before .before .before .before .if1 .taken)))
+cast-add-row : tie.Need-cast-add-row
+cast-add-row c =
+    let a = c .before .before .before .before .before .before .before .before .before .before .before .before .before .args in
+    omega (arith, leb-true (a .n) 16 (right (leb 1 (a .n)) _ (c .before .before .before .before .before .before .before .before .before .before .if1 .taken)))
 
-slice-write-log : tie.Need-slice-write-log
-slice-write-log c =
+add-row-requires : tie.Need-add-row-requires
+add-row-requires c κs =
     let l = length (now (c .before .before .before .before .before .before .before .before .before .before .before .before .before .args .log)) in
     omega (arith, leb-true 3 l (left (leb 3 l) _ (c .before .before .before .before .before .before .before .if3 .taken)))
 
 returns : tie.Need-returns
 returns c =
-    let a = c .before .before .before .before .before .before .before .before .before .before .before .before .before .before .args in
-    rw (c .before .before .before .before .fill .ensures, c .before .row-of .ensures, c .fresh-state .ensures)
-    (all-set (rulesOf (a .counted)) (a .n) (a .value) (a .fresh) (now (a .table)) (now (a .log)) (c .before .before .before .before .before .before .before .before .before .before .before .if1 .taken) _ _ _ (c .before .before .before .before .before .before .before .before .before .before .cells-of .ensures) (c .before .before .before .before .before .before .before .before .before .if2 .taken) (c .before .before .before .before .before .before .before .before .if3 .taken) (sym (kind-is (a .counted)))
-    (fresh-words (a .counted) (a .n) (a .value) (a .fresh) _ _ _ (c .before .before .before .before .before .before .before .before .before .before .cells-of .ensures) (c .before .before .before .before .before .before .before .own-word .ensures) (c .before .before .before .before .before .before .other-word .ensures)))
+    let a = c .before .before .before .before .before .before .before .before .before .before .before .before .before .before .before .before .before .args in
+    let cells = c .before .before .before .before .before .before .before .before .before .before .before .before .before .cells-of .ensures in
+    rw (c .before .before .before .before .before .before .before .fill .ensures, c .before .before .before .add-row .ensures, c .fresh-state .ensures)
+    (all-set (rulesOf (a .counted)) (a .n) (a .value) (a .fresh) (now (a .table)) (now (a .log)) (c .before .before .before .before .before .before .before .before .before .before .before .before .before .before .if1 .taken) _ _ _ cells (c .before .before .before .before .before .before .before .before .before .before .before .before .if2 .taken) (c .before .before .before .before .before .before .before .before .before .before .before .if3 .taken) (sym (kind-is (a .counted)))
+    (fresh-words (a .counted) (a .n) (a .value) (a .fresh) _ _ _ cells (c .before .before .before .before .before .before .before .before .before .before .own-word .ensures) (c .before .before .before .before .before .before .before .before .before .other-word .ensures)))
 
 returns-2 : tie.Need-returns-2
 returns-2 c =
@@ -62,9 +64,8 @@ set-up-of-spec =
     (λ c κs. search needs)
     (λ c κs. search needs)
     fill-requires
-    cast-row-of
-    (λ c κs. search needs)
-    slice-write-log
+    cast-add-row
+    add-row-requires
     (λ c κs. search needs)
     (λ c. search needs)
     (λ c. search needs)

@@ -4,8 +4,8 @@ use mathlib.Core.List.{List}
 use Prim.Native.Nat.{ℕ}
 use denote.Ref.{now}
 use borrow.Author.Needs.{needs}
-use Rattle.judge.proofs.ByteLaws.{rows-front, rows-length}
-use Rattle.judge.proofs.Meaning.{Says}
+use Rattle.judging.proofs.ByteLaws.{rows-front, rows-length}
+use Rattle.judging.proofs.Meaning.{Says}
 use Rattle.verdict.proofs.Laws.{odd, long, whole}
 use Rattle.verdict.proofs.log.judge_log.Statement.{statement}
 use Rattle.verdict.proofs.log.judge_log.Tie as tie

@@ -1,6 +1,6 @@
 use mathlib.Core.Path.{subst}
-use Rattle.judge.specs.declared.verdict.Verdict.{Verdict}
-use Rattle.judge.specs.Meaning.{Fits}
+use Rattle.judging.specs.declared.Verdict.{Verdict}
+use Rattle.judging.specs.Meaning.{Fits}
 use borrow.Author.Needs.{needs}
 use Rattle.verdict.proofs.text.print_verdict.Statement.{statement}
 use Rattle.verdict.proofs.text.print_verdict.Tie as tie

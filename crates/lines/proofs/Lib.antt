@@ -1,3 +1,0 @@
-pub mod FieldLaws
-pub mod ListingLaws
-pub mod ScriptLaws

@@ -1,4 +1,0 @@
-pub mod Fields
-pub mod Digits
-pub mod Listing
-pub mod Script

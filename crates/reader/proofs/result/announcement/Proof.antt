@@ -1,9 +1,0 @@
-use borrow.Author.Needs.{needs}
-use Rattle.reader.proofs.result.announcement.Statement.{statement}
-use Rattle.reader.proofs.result.announcement.Tie as tie
-
-returns : tie.Need-returns
-returns c = rw (c .stamp-in .ensures)
-
-pub announcement-spec : {M : Type 1} → statement M
-announcement-spec = tie.close (tie.spec (λ c κs. search needs) returns)

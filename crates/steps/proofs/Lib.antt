@@ -1,0 +1,3 @@
+mod TicketLaws
+mod CountingLaws
+pub mod Laws
