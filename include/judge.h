@@ -12,4 +12,10 @@
    It reads the bytes and nothing else, writes nothing, and always returns. */
 uint32_t judge_bytes(const uint8_t *bytes, size_t length);
 
+/* A log of rows, and places for its order, which receive the begin rows of its operations, earliest-placed; places beyond stay as they were.
+   The result: above, the number as for judge_bytes, or 11 if there are fewer places than begin rows; below, with 0 how many places were
+   written, with 12 the begin row of the first read with which there is no order, else 0. A refused log leaves all places as they were.
+   The two buffers may not overlap. */
+uint64_t judge_rows(const uint64_t *rows, size_t rows_length, uint64_t *order, size_t order_length);
+
 #endif

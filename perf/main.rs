@@ -19,6 +19,7 @@ const ROOM: usize = 29_000_000; // states that a search keeps, about 1.4 GB
 mod proved {
     unsafe extern "C" {
         fn judge_bytes(bytes: *const u8, length: usize) -> u32;
+        fn judge_rows(rows: *const u64, rows_length: usize, order: *mut u64, order_length: usize) -> u64;
         fn register_run(
             readers: u32,
             start: u32,
@@ -35,6 +36,12 @@ mod proved {
 
     pub fn judge(bytes: &[u8]) -> u32 {
         unsafe { judge_bytes(bytes.as_ptr(), bytes.len()) }
+    }
+
+    /// The number of the verdict; the order is left in its places.
+    pub fn judge_with_order(rows: &[u64], order: &mut [u64]) -> u32 {
+        let word = unsafe { judge_rows(rows.as_ptr(), rows.len(), order.as_mut_ptr(), order.len()) };
+        (word >> 32) as u32
     }
 
     pub fn run(n: u32, start: u32, calls: &[u64], table: &mut [u64], log: &mut [u64], answers: &mut [u64]) -> Result<usize, u32> {
@@ -171,6 +178,7 @@ fn compare() {
 /// What was measured of some logs of one kind and length: nanoseconds for one of them.
 struct Judged {
     ours: f64,
+    ordered: f64,
     rust: f64,
     passes: f64,
     number: u32,
@@ -187,9 +195,16 @@ fn judged(logs: &[Vec<u64>]) -> Judged {
             black_box(judge(black_box(bytes)));
         }
     };
-    let times = least(SPAN, [&mut || each(proved::judge), &mut || each(judge::judge), &mut || each(judge::judge_in_passes)]);
-    let [ours, rust, passes] = times.map(|t| t / all.len() as f64);
-    Judged { ours, rust, passes, number, search: searched(&logs[0], number, ours) }
+    let mut order = vec![0; 4096];
+    let mut orders = || {
+        for log in logs {
+            assert_eq!(proved::judge_with_order(black_box(log), black_box(&mut order)), number);
+        }
+    };
+    let times =
+        least(SPAN, [&mut || each(proved::judge), &mut orders, &mut || each(judge::judge), &mut || each(judge::judge_in_passes)]);
+    let [ours, ordered, rust, passes] = times.map(|t| t / all.len() as f64);
+    Judged { ours, ordered, rust, passes, number, search: searched(&logs[0], number, ours) }
 }
 
 /// The time of a search, the least of some if it is short, and as a multiple of a judge's.
@@ -304,6 +319,12 @@ fn print_judges(ratios: &mut Ratios) {
         " growth |",
         &|j, rows| format!("{:.2}", per_row(j, rows)),
         &|row| format!(" {:.2} |", per_row(&row[4], 4096) / per_row(&row[1], 512)),
+    );
+    table(
+        "Judge of rows, with its order: nanoseconds per row, and as a multiple of the byte judge's",
+        "",
+        &|j, rows| format!("{:.2}, × {:.2}", j.ordered / rows as f64, j.ordered / j.ours),
+        &|_| String::new(),
     );
     table("Byte judge: time, as a multiple of the plain Rust judge's", "", &|j, _| format!("{:.2}", j.ours / j.rust), &|_| {
         String::new()

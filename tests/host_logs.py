@@ -3,7 +3,8 @@
 
     host_logs.py OUTDIR COUNT
 
-Writes COUNT log files to OUTDIR, the same at every run, and prints the model's number for each in sorted order.
+Writes COUNT log files to OUTDIR, the same at every run, and prints a line for each in sorted order: the model's number, and
+what the model says of its whole rows with 4,096 places for an order and with 3.
 In turn: a register's log; one with a result replaced; a random well-formed log; a register's log with one bit of one
 row changed. In two of three, about half of the reads end with a band. Every eleventh loses some of its last bytes.
 """
@@ -14,7 +15,7 @@ from pathlib import Path
 sys.dont_write_bytecode = True
 sys.path.insert(0, str(Path(__file__).resolve().parent.parent / 'tools'))
 
-from model import banded, bytes_of, damaged, judge_bytes, random_log, register_log
+from model import banded, bytes_of, damaged, judge, judge_bytes, random_log, register_log, rows_of, verdict
 from verdict_logs import dice
 
 
@@ -47,7 +48,9 @@ def main(outdir, count):
         data = log(pick, k)
         (Path(outdir) / f'{k:05}.log').write_bytes(data)
         answer = judge_bytes(data)
-        print(0 if answer[0] == 'order' else answer[1])
+        rows = rows_of(data[:len(data) // 8 * 8])
+        lines = [verdict(judge(rows, places)) for places in (4096, 3)]
+        print(0 if answer[0] == 'order' else answer[1], *lines, sep=', ')
 
 
 main(sys.argv[1], int(sys.argv[2]))

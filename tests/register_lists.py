@@ -4,7 +4,8 @@
     register_lists.py OUTDIR COUNT
 
 Writes COUNT lists to OUTDIR/in, in turn of the first register and of the counted one, the same at every run, and to OUTDIR/expected
-what tests/registers.c must print; then prints how many calls were made and how often each refusal was met. Among the lists are ones of no readers and
+what tests/registers.c must print; to OUTDIR/calls their calls one at a time, and to OUTDIR/answered what tests/calls.c must print for them; then prints
+how many calls were made and how often each refusal was met. Among the lists are ones of no readers and
 of more than 16, tables and logs of wrong lengths, retirements in the midst of reads, words that are no calls, and too few places for answers.
 """
 
@@ -15,7 +16,7 @@ from pathlib import Path
 sys.dont_write_bytecode = True
 sys.path.insert(0, str(Path(__file__).resolve().parent.parent / 'tools'))
 
-from model import LAST_STAMP, Counted, Register, cells_of, counted_cells_of, make_calls
+from model import LAST_STAMP, Counted, Register, answer_word, cells_of, counted_cells_of, make_calls
 from verdict_logs import dice
 
 TABLE, LOG, ANSWERS = 0xABAB << 48, 0xCDCD << 48, 0xEFEF << 48  # what the first word of each buffer holds; the next one more
@@ -71,15 +72,60 @@ def left(counted, n, start, fresh, cells, rows, calls, places):
     return [result, *table, TABLE + cells, *log, LOG + rows, *answers, ANSWERS + places], made, met
 
 
+def one_at_a_time(calls):
+    """The calls in the words, but for begins of a read by processor 0, which is the writer where a begin is told its processor."""
+    return [call for call in calls if 1 <= call >> 32 <= 4 and call != 2 << 32]
+
+
+def ones(bytes_):
+    """A field of so many bytes, each 1."""
+    return int('01' * bytes_, 16)
+
+
+# The fields of a state by their bytes: those of the head, of the writer and of a reader.
+HEAD, WRITER, READER = (1, 1, 4, 8, 8), (1, 1, 4, 8, 1, 1, 1, 4), (1, 1, 1, 1, 1, 1, 8, 1, 1, 8)
+
+
+def fresh_fields(counted, n, fresh, rows):
+    """“the writer's stamp, at first (0,1); each reader's stamp, at first none”; a write has no ticket yet; the rest is 0."""
+    return [counted, 0, n, rows, 1, 0, 0, 0, 0, 63, 0, 1, fresh * counted, *[0, 0, 0, 0, 63, 63, 0, 0, 0, 0] * 16]
+
+
+def answered(counted, n, start, fresh, cells, rows, calls):
+    """What tests/calls.c prints: a refused set-up leaves the state, which is out of range."""
+    table, log, answers = [TABLE + i for i in range(cells)], [LOG + i for i in range(rows)], [4 << 32] * len(calls)
+    register = Counted() if counted else Register()
+    answer = register.set_up(n, start, *[fresh] * counted, table, log)
+    if answer[0] == 'refused':
+        fields = [ones(size) for size in HEAD + WRITER + READER * 16]
+        standing = [1, ones(8), 1, *[2] * 16]
+    else:
+        make_calls(register, calls, answers)
+        fields = fresh_fields(counted, n, fresh, rows)
+        standing = [register.busy, register.used, *(int(operation is not None) for operation in register.open), *[0] * (16 - n)]
+        for reader in register.retired:
+            standing[2 + reader] = 2
+    return [answer_word(answer), *fields, *answers, *standing, ones(8), ones(8), *table, TABLE + cells, *log, LOG + rows]
+
+
+def line(words):
+    return ' '.join(f'{word:x}' for word in words)
+
+
 def main(outdir, count):
     pick = dice(3)
     made, met = [0, 0], [Counter(), Counter()]
-    with open(Path(outdir) / 'in', 'w') as given_file, open(Path(outdir) / 'expected', 'w') as expected:
+    given_file, expected, calls_file, answered_file = (
+        open(Path(outdir) / name, 'w') for name in ('in', 'expected', 'calls', 'answered'))
+    with given_file, expected, calls_file, answered_file:
         for k in range(count):
             *numbers, calls, places = run = given(pick, k)
             words, calls_made, refusals = left(*run)
-            print(*numbers, len(calls), places, *(f'{call:x}' for call in calls), file=given_file)
-            print(*(f'{word:x}' for word in words), file=expected)
+            print(*numbers, len(calls), places, line(calls), file=given_file)
+            print(line(words), file=expected)
+            singly = one_at_a_time(calls)
+            print(*numbers, len(singly), line(singly), file=calls_file)
+            print(line(answered(*numbers, singly)), file=answered_file)
             made[k % 2] += calls_made
             met[k % 2] += refusals
     for name, calls, refusals in zip(('first', 'counted'), made, met):

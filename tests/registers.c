@@ -5,17 +5,8 @@
 #include <stdio.h>
 #include <stdlib.h>
 
+#include "lent.h"
 #include "register.h"
-
-static uint64_t *lent(size_t length, uint64_t mark)
-{
-    uint64_t *words = malloc((length + 1) * sizeof *words);
-    if (words == NULL)
-        abort();
-    for (size_t i = 0; i <= length; i++)
-        words[i] = mark + i;
-    return words;
-}
 
 static void show(uint64_t *words, size_t length)
 {

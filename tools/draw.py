@@ -5,8 +5,8 @@
     draw.py LOG < LINE > PICTURE.svg    of a log as bytes, and verdict's line for it
 
 A lane for each processor, a bar for each operation from its begin row to its end row (to the right edge if it has none),
-its reading above the bar (a band as lowest..highest), and a dot at the instant that the order gives it. If there is no order,
-the offending read is red.
+its reading above the bar (a band as lowest..highest), and a dot at an instant that the order allows. If there is no order, the
+offending read is red. Below are the rows' numbers, and a legend.
 """
 
 import sys
@@ -19,6 +19,8 @@ sys.dont_write_bytecode = True
 from model import judge_bytes, listing, rows_of
 
 LANE, BAR, LEFT, TOP, STEP = 44, 20, 96, 40, 34  # pixels; STEP is the way from one row to the next
+SMALL = 'fill="#666" font-size="10"'
+DASHED = ' stroke="#444" stroke-dasharray="4 3"'
 
 
 @dataclass
@@ -73,14 +75,37 @@ def bar(operation, edge, red):
     width = LEFT + STEP * (edge if operation.end is None else operation.end) - x
     y = TOP + LANE * operation.lane
     fill = '#d33' if red else '#4a7ab5' if operation.lane == 0 else '#8fb58a'
-    dashed = ' stroke="#444" stroke-dasharray="4 3"' if operation.end is None else ''
+    dashed = DASHED if operation.end is None else ''
     return [f'<rect x="{x}" y="{y}" width="{width}" height="{BAR}" rx="4" fill="{fill}"{dashed}/>',
             text(x, y - 4, operation.reading)]
 
 
+def swatch(x, y, fill, dashed=''):
+    return f'<rect x="{x}" y="{y - 9}" width="14" height="10" rx="2" fill="{fill}"{dashed}/>'
+
+
+def dot(x, y, radius=5):
+    return f'<circle cx="{x:g}" cy="{y:g}" r="{radius}" fill="#fff" stroke="#222" stroke-width="2"/>'
+
+
+def legend(y, offending):
+    """What the colours and the dots are."""
+    bars = [('#4a7ab5', '', 'write'), ('#8fb58a', '', 'read'), ('#ccc', DASHED, 'not ended')]
+    if offending is not None:
+        bars.append(('#d33', '', 'the read begun there'))
+    x, out = 10, []
+    for fill, dashed, words in bars:
+        out += [swatch(x, y, fill, dashed), text(x + 20, y, words, SMALL)]
+        x += 36 + 5 * len(words)
+    if offending is None:
+        out += [dot(16, y + 12, 4), text(30, y + 16, 'an instant that the order allows', SMALL)]
+    return out
+
+
 def draw(readers, start, operations, order, offending):
     rows = 1 + max([0] + [max(o.begin, o.end or 0) for o in operations.values()])
-    width, height = LEFT + STEP * (rows + 1), TOP + LANE * (readers + 1) + 24
+    axis = TOP + LANE * (readers + 1) + 16
+    width, height = max(LEFT + STEP * (rows + 1), 320), axis + 48
     out = [f'<svg xmlns="http://www.w3.org/2000/svg" width="{width}" height="{height}" font-family="sans-serif" font-size="13">',
            f'<rect width="{width}" height="{height}" fill="#fff"/>',
            text(10, 22, f'start {start}' if offending is None else f'start {start}: no order, read begun at row {offending}')]
@@ -92,10 +117,11 @@ def draw(readers, start, operations, order, offending):
         out += bar(operation, rows, operation.begin == offending)
     for begin, x in instants(order or []).items():
         y = TOP + LANE * operations[begin].lane + 10
-        out.append(f'<circle cx="{LEFT + STEP * x:g}" cy="{y}" r="5" fill="#fff" stroke="#222" stroke-width="2"/>')
+        out.append(dot(LEFT + STEP * x, y))
+    out.append(text(10, axis, 'row of the log', SMALL))
     for row in range(1, rows):
-        out.append(text(LEFT + STEP * row - 3, height - 8, str(row), 'fill="#888" font-size="10"'))
-    return '\n'.join(out + ['</svg>', ''])
+        out.append(text(LEFT + STEP * row - 3, axis, str(row), SMALL))
+    return '\n'.join(out + legend(axis + 20, offending) + ['</svg>', ''])
 
 
 def picture(print_):

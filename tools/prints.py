@@ -15,7 +15,7 @@ sys.dont_write_bytecode = True
 from bench_inputs import EXAMPLE, bench_inputs
 from draw import listed, picture
 from model import (
-    MAX_ROWS, NO_STAMP, Counted, Register, bench, bytes_of, log_of, unpack_cell, unpack_counted)
+    MAX_ROWS, NO_STAMP, Counted, Register, bench, bytes_of, judge, listing, log_of, unpack_cell, unpack_counted)
 from soak import soak_lines
 from trials_expected import trials_input, trials_lines
 from verdict_logs import STANDARD_INPUT, expected, verdict_logs
@@ -57,6 +57,8 @@ def examples():
             yield path.stem + '.svg', picture(print_).encode()
     for path in sorted((ROOT / 'examples').glob('*.calls')):
         yield path.stem + '.out', lines_of(scope(path.read_text()))
+    for path in sorted((ROOT / 'examples').glob('*.readings')):
+        yield path.stem + '.out', lines_of(board(path.read_text()))
     for name, rows in SOUNDER_LOGS.items():
         data = bytes_of(rows)
         line = expected(name, data) + '\n'
@@ -81,6 +83,36 @@ def scope(text):
         yield ', '.join([f'{call}: {told[what].format(*value)}', *changed])
     yield ' '.join(['cells', *(f'{word:016X}' for word in register.table)])
     yield ' '.join(['rows', *(f'{word:016X}' for word in register.log[:register.used])])
+
+
+def board(text):
+    """What examples/board.c prints for readings and unplugged readers, of which none is refused."""
+    start, *lines = text.splitlines()
+    register = Register()
+    register.set_up(2, int(start), [0] * 6, [0] * 200)
+
+    def rounds(again):
+        """A turn of each while the write goes on, or anything; of idle readers too if they look again."""
+        while register.open[0] is not None if again else register.busy:
+            for p in range(3):
+                if p in register.retired:
+                    continue
+                if register.open[p] is not None:
+                    register.step(p)
+                elif p and again:
+                    register.begin_read(p)
+
+    for line in lines:
+        if line.startswith('U '):
+            register.retire(int(line[2:]))
+        else:
+            register.begin_write(int(line))
+            rounds(True)
+    rounds(False)
+    rows = register.log[:register.used]
+    yield from listing(rows)
+    answer = judge(rows)
+    yield f'judged {0 if answer[0] == "order" else answer[1]}'
 
 
 def cell_text(i, word, counted):

@@ -10,8 +10,8 @@ from dataclasses import replace
 
 from model import (
     FIRST_STAMP, LAST_STAMP, NO_STAMP, Cell, Counted, CountedCell, CountedRange, Register,
-    TicketRange, bytes_of, counted_index, in_range, judge, judge_bytes, log_of,
-    new_ticket, pack_cell, pack_counted, pack_row)
+    TicketRange, bytes_of, cell_index, cells_of, counted_index, in_range, judge, judge_bytes,
+    log_of, new_ticket, pack_cell, pack_counted, pack_row)
 from verdict_logs import OPEN_READ, OPEN_WRITE, START
 
 MARK = (1 << 64) - 1  # what buffers hold before anything is written to them
@@ -380,7 +380,7 @@ def hex_text(words):
     return ''.join(f' {word:016x}' for word in words)
 
 
-def counted_text(register, text):
+def text_with_cells(register, text):
     """The cells, the answer to each call, the cells and rows they leave, and the order."""
     cells = hex_text(register.table)
     made = calls_text(register, text)
@@ -389,7 +389,7 @@ def counted_text(register, text):
             f'log{hex_text(used)}{log_text(used, 16)}')
 
 
-def counted_calls(text):
+def calls_with_cells(text):
     return [CELLS, *calls(text, GOES_ON), CELLS, judge_used(1)]
 
 
@@ -399,24 +399,48 @@ def counted_script_trial(n, fresh, rows, text):
     register.set_up(n, 7, fresh, [MARK] * (n * n), [MARK] * rows)
     return Trial(
         f'counted from {fresh}, readers {n}, rows {rows}',
-        [lend(n * n, rows), set_up_counted(n, fresh), *counted_calls(text)],
-        counted_text(register, text))
+        [lend(n * n, rows), set_up_counted(n, fresh), *calls_with_cells(text)],
+        text_with_cells(register, text))
+
+
+def found_trial(words, register, set_up_act, found, text):
+    """Calls of a fresh register, with 16 rows, whose table holds what was found at these places."""
+    for place, word in found.items():
+        register.table[place] = word
+    cells = [put_cell(place, word) for place, word in found.items()]
+    return Trial(
+        f'{words}, rows 16, cells set',
+        [lend(len(register.table), 16), set_up_act, *cells, *calls_with_cells(text)],
+        text_with_cells(register, text))
 
 
 def cells_set_trial(*cells):
     """A read by reader 3 of 3 that finds these cells of the writer and of readers 1 and 2."""
     register = Counted()
     register.set_up(3, 7, 5, [MARK] * 9, [MARK] * 16)
-    places = [counted_index(3, i, 3) for i in range(3)]
-    for place, cell in zip(places, cells):
-        register.table[place] = pack_counted(CountedCell(*cell))
-    text = 'R 3, S 3, S 3, S 3, S 3, S 3'
-    found = [put_cell(place, register.table[place]) for place in places]
-    return Trial(
-        'counted from 5, readers 3, rows 16, cells set',
-        [lend(9, 16), set_up_counted(3, 5), *found, *counted_calls(text)],
-        counted_text(register, text))
+    found = {counted_index(3, i, 3): pack_counted(CountedCell(*cell))
+             for i, cell in enumerate(cells)}
+    return found_trial('counted from 5, readers 3', register, set_up_counted(3, 5), found,
+                       'R 3, S 3, S 3, S 3, S 3, S 3')
 
+
+def stamps_set_trial(writer, *others):
+    """A read by reader 1 that finds these cells of the writer and of readers 2 to n."""
+    n = 1 + len(others)
+    register = Register()
+    register.set_up(n, 7, [MARK] * cells_of(n), [MARK] * 16)
+    found = {cell_index(n, i, 1): pack_cell(Cell(*cell))
+             for i, cell in zip([0, *range(2, n + 1)], [writer, *others])}
+    return found_trial(f'readers {n}', register, set_up(n), found,
+                       ', '.join(['R 1'] + ['S 1'] * (2 * n + 3)))
+
+
+# “the first of the other readers' cells whose prev equals the third look's cur”; “for stamp none,
+# reading 0”, where “stamp none is (63,63) only”: reading and stamp of each.
+STAMPS_SET = [
+    ((9, (5, 4)), (1, (6, 5)), (2, (7, 5))), ((9, (5, 4)), (1, (6, 7)), (2, (7, 5))),
+    ((9, (63, 5)), (1, (2, 3))), ((9, (5, 63)), (1, (2, 3))), ((9, NO_STAMP), (1, (2, 3))),
+]
 
 COUNTED_SESSIONS = [
     (2, 5, 16, 'W 9, S 0, R 1, S 1, S 1, S 1, R 2, S 2, S 2, S 2, S 0'),
@@ -601,6 +625,7 @@ def trials():
     yield from (script_trial(*script) for script in SCRIPTS)
     yield from (range_trial(*state) for state in RANGES)
     yield from (ticket_trial(*state) for state in TICKETS)
+    yield from (stamps_set_trial(*cells) for cells in STAMPS_SET)
     yield from counted_trials()
     yield from lengths()
     yield from (log_trial(rows, 0) for rows in MALFORMED)

@@ -1,69 +1,41 @@
-// The bench: reads a register's size and calls, makes the calls, and prints the refusals, the listing of the log and its order. Its
-// input is standard input, or each of the files that the arguments name, where `-` is standard input.
-mod text; // what is printed
-mod order; // the order of the log
-mod run; // the calls, made
+// The bench: reads a register's size and calls, makes the calls, and prints the refusals, the listing of the log and its order, for each of
+// its inputs: see the crate `inputs`.
+use libc::STDOUT_FILENO;
+use prints::bench::bench_print;
+ghost use mathlib.Core.Path.{_≡_};
+ghost use lib.ListN.{length};
 
-use libc::STDIN_FILENO;
-
-// Whether fd has bytes beyond those read.
-fn has_more(fd: i32) -> bool {
-    let mut rest = io::buffer();
-    0 < io::read_full(fd, &mut rest)
+// Room for an input, and for one byte more.
+fn input_bytes() -> [u8; 65537]
+    ensures { λ r. ⌜ 65537 ≡ length r ⌝ }
+{
+    [0; 65537]
 }
 
-// The bench on what can be read from fd.
-fn bench_file(fd: i32) {
-    let mut bytes = io::large_buffer();
-    let n = io::read_full(fd, &mut bytes);
-    if n == 65536 {
-        if has_more(fd) {
-            text::print_bad(1);
-            return;
-        }
-    }
-    run::bench(&bytes[..n]);
+// Room for every print.
+fn print_bytes() -> [u8; 1048576]
+    ensures { λ r. ⌜ 1048576 ≡ length r ⌝ }
+{
+    [0; 1048576]
 }
 
-// Whether an argument is `-`.
-fn is_dash(path: &[u8]) -> bool {
-    if path.len() != 1 {
-        return false;
+// The print of input k. Of an input that is longer than 65,536 bytes one more is read.
+fn print_input(k: usize) {
+    let mut bytes = input_bytes();
+    let input = inputs::read(k, &mut bytes);
+    if input.found {
+        let count = input.count;
+        let mut out = print_bytes();
+        let n = bench_print(&bytes[..count], &mut out);
+        io::write_all(STDOUT_FILENO, &out[..n]);
     }
-    path[0] == b'-'
 }
 
-// The bench on the file that argument i names.
-fn bench_argument(i: usize) {
-    let mut path = io::buffer();
-    let n = os::arg(i, &mut path);
-    if os::errno() != 0 {
-        os::fail(b"argument");
-        return;
-    }
-    if is_dash(&path[..n]) {
-        bench_file(STDIN_FILENO);
-        return;
-    }
-    let fd = os::open_read(&path[..n]);
-    if fd < 0 {
-        os::fail(&path[..n]);
-        return;
-    }
-    bench_file(fd);
-    libc::close(fd);
-}
-
-// The bench on standard input, or on each argument.
 fn main() {
-    let n = os::arg_count();
-    if n < 2 {
-        bench_file(STDIN_FILENO);
-        return;
-    }
-    let mut i = 1;
-    while i < n {
-        bench_argument(i);
-        i += 1;
+    let end = inputs::end();
+    let mut k = 1;
+    while k < end {
+        print_input(k);
+        k += 1;
     }
 }

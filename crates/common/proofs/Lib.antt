@@ -1,3 +1,5 @@
+pub mod Answers
+pub mod SetUpMeaning
 pub mod HeadLaws
 pub mod LogRows
 pub mod Effects

@@ -6,25 +6,23 @@ use mathlib.Core.Bool.{Bool, true, false, not, _&&_}
 use native.Mathlib.Omega.{arith}
 use lib.ListN.{length, getD, set, drop, replicate, length-set, length-append, length-drop, getD-replicate}
 use lib.Seq.{drop-at, drop-set-lt}
-use lib.Dec.{leb, eqb}
-use borrow.Author.Tests.{leb-true}
-use Rattle.words.proofs.Laws.Choice.{pick-ind, le-ind, left, right}
+use lib.Dec.{eqb}
+use Rattle.words.proofs.Laws.Choice.{pick-ind, le-ind}
 use Rattle.words.proofs.Laws.Counting.{count-nowhere}
 use Rattle.common.specs.Answers.{numberOf, never4}
 use Rattle.common.specs.Calls.{Call, write, read, step, retire}
 use Rattle.common.specs.declared.Answer.the-variants.{Accepted}
-use Rattle.common.specs.declared.Refusal.{Refusal}
-use Rattle.common.specs.declared.Refusal.the-variants.{Readers, Cells, Rows}
 use Rattle.common.specs.declared.Writer.{Writer}
 use Rattle.common.specs.declared.Reader.{Reader}
 use Rattle.common.specs.declared.State.{State}
 use Rattle.common.specs.Effects.{SetsUp}
 use Rattle.common.specs.State.{blank, readerAt, isRetired, asCounted}
 use Rattle.common.specs.Rules.{Rules}
-use Rattle.common.specs.SetUp.{Outcome, refused, freshReader, freshState, startRow, setUpOf}
+use Rattle.common.specs.SetUp.{Outcome, freshReader, freshState, startRow, setUpOf}
 use Rattle.common.specs.Register.{callOf, Ran, runOf}
 use Rattle.common.specs.Book.{Operation, idle, open-with, isOpen, Model, Telling, Told, Kept, begun, ofProcessor, begins, beginsWrite, movesWrite, movesRead, told, freshModel, kept}
 use Rattle.common.specs.Whole.{modelOf}
+use Rattle.common.proofs.SetUpMeaning.{set-up-if, set-up-leaves}
 use Rattle.common.proofs.LogRows.{start-rows}
 use Rattle.common.proofs.Range.{range-test}
 use Rattle.common.proofs.Lawful.{Lawful, Simulates}
@@ -130,37 +128,25 @@ module _ {Stamp Cell : Type 0} (R : Rules) (B : Telling Stamp Cell) (WIs : ℕ �
               at true = refl
               at false = refl
 
-    module _ (n v fresh : ℕ) (low : fresh < 2 ^ 32) (t l : List ℕ) (cs : List Call) where
-      abbrev Leads : Outcome → Type 0
-      Leads o = o .answer ≡ Accepted → FromSetUp n v fresh t l o cs
-
-      refuses : (k : Refusal) (s : State) → Leads (refused k s t l)
-      refuses k s e = let z : _≡_ {A = ℕ} 0 1 = cc in absurd (omega arith)
-
-      pub from-set-up : Leads (setUpOf R n v fresh t l)
-      unfolding setUpOf
-      from-set-up =
-          pick-ind Leads (leb 1 n && leb n 16) _ _
-          (λ e1. le-ind Leads (R .cells n) (length t) _ _
-          (λ h2. pick-ind Leads (leb 3 (length l) && leb (length l) 4096) _ _
-          (λ e3 _.
-          let n1 = leb-true 1 n (left (leb 1 n) (leb n 16) e1) in
-          let n16 = leb-true n 16 (right (leb 1 n) (leb n 16) e1) in
-          let l3 = leb-true 3 (length l) (left (leb 3 (length l)) (leb (length l) 4096) e3) in
-          let l4 = leb-true (length l) 4096 (right (leb 3 (length l)) (leb (length l) 4096) e3) in
-          record {
-            runs = run-rel (drop (R .cells n) t) (set l 0 (startRow n v)) cs (freshState (R .counted) n fresh (length l)) (R .freshCells n v fresh ++ drop (R .cells n) t) (set l 0 (startRow n v)) (freshModel B n v fresh)
-                (fresh-good n v fresh t l n1 n16 low h2 l3 l4) (fresh-rel n v fresh t l n1 n16 low h2 l3 l4) (simp length-set);
-            beyond = drop-at (R .freshCells n v fresh) (drop (R .cells n) t) (R .cells n) (W .fresh-length n v fresh n1);
-            n-is = refl;
-            rows-is = refl;
-            log-is = refl;
-            n-low = n1;
-            n-high = n16;
-          })
-          (λ _. refuses Rows _))
-          (λ _. refuses Cells _))
-          (λ _. refuses Readers _)
+    pub from-set-up : (n v fresh : ℕ) → fresh < 2 ^ 32 → (t l : List ℕ) (cs : List Call) → setUpOf R n v fresh t l .answer ≡ Accepted
+        → FromSetUp n v fresh t l (setUpOf R n v fresh t l) cs
+    from-set-up n v fresh low t l cs e =
+        let F = set-up-if R n v fresh t l .0 (ap numberOf e) in
+        let n1 = F .readers .low in
+        let n16 = F .readers .high in
+        let l3 = F .log .low in
+        let l4 = F .log .high in
+        rw (set-up-leaves R n v fresh t l F)
+        (record {
+          runs = run-rel (drop (R .cells n) t) (set l 0 (startRow n v)) cs (freshState (R .counted) n fresh (length l)) (R .freshCells n v fresh ++ drop (R .cells n) t) (set l 0 (startRow n v)) (freshModel B n v fresh)
+              (fresh-good n v fresh t l n1 n16 low (F .enough) l3 l4) (fresh-rel n v fresh t l n1 n16 low (F .enough) l3 l4) (simp length-set);
+          beyond = drop-at (R .freshCells n v fresh) (drop (R .cells n) t) (R .cells n) (W .fresh-length n v fresh n1);
+          n-is = refl;
+          rows-is = refl;
+          log-is = refl;
+          n-low = n1;
+          n-high = n16;
+        })
 
     -- "Set-up writes row 0 only", "The fresh state passes 4 with its table and log"
     pub sets-up : (n v fresh : ℕ) (t l : List ℕ) → fresh < 2 ^ 32 → setUpOf R n v fresh t l .answer ≡ Accepted → SetsUp R n t l (setUpOf R n v fresh t l)

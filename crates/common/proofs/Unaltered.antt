@@ -1,11 +1,11 @@
--- A refused call alters nothing; and every call is refused if the number of open operations is off.
+-- A refused call or set-up alters nothing; and every call is refused if the number of open operations is off.
 use Prim.Native.Nat.{ℕ, _-_}
 use mathlib.Core.Path.{_≡_, refl, sym, ap, _∙_}
 use mathlib.Core.Logic.{_≢_}
 use mathlib.Core.Bool.{Bool, true, false}
 use mathlib.Core.List.{List}
 use lib.ListN.{length}
-use lib.Dec.{eqb}
+use lib.Dec.{eqb, leb}
 use Rattle.words.specs.Choice.{pick}
 use Rattle.words.proofs.Laws.Choice.{pick-ind, never}
 use Rattle.common.specs.Calls.{Call, write, read, step, retire}
@@ -14,14 +14,14 @@ use Rattle.common.specs.declared.Answer.the-variants.{Accepted, Moved, R
 use Rattle.common.specs.declared.Refusal.{Refusal}
 use Rattle.common.specs.declared.Refusal.the-variants.{Range}
 use Rattle.common.specs.declared.State.{State}
-use Rattle.common.specs.Effects.{Unaltered}
+use Rattle.common.specs.Effects.{Unaltered, NotSetUp}
 use Rattle.common.specs.Head.{hasRoom}
 use Rattle.common.specs.State.{readerAt, openIn}
 use Rattle.common.specs.Rules.{Rules, stateOk}
-use Rattle.common.specs.SetUp.{Outcome, refused}
+use Rattle.common.specs.SetUp.{Outcome, refused, noState, readersFit, rowsFit, setUpOf}
 use Rattle.common.specs.Register.{inRange, asProcessor, beginWriteOf, beginReadOf, stepWriter, stepReader, stepOf, retireOf, callOf}
 use Rattle.common.proofs.Asked.{as-processor}
-use Rattle.common.proofs.Range.{test-range}
+use Rattle.common.proofs.Range.{test-range, no-state}
 
 abbrev isRefused : Answer → Bool
 isRefused Accepted = false
@@ -93,3 +93,25 @@ module _ (R : Rules) (s : State) (t l : List ℕ) where
     number-off (read p) = rw out
     number-off (step p) = rw out
     number-off (retire p) = rw out
+
+-- The same of a set-up, which returns no register's state.
+module _ (R : Rules) (n v fresh : ℕ) (t l : List ℕ) where
+  KeepsAll : Outcome → Type 0
+  KeepsAll o = (r : Refusal) → o .answer ≡ Refused r → NotSetUp R t l o
+
+  denies : (o : Outcome) → o .table ≡ t → o .log ≡ l → o .state ≡ noState (R .counted) → KeepsAll o
+  unfolding KeepsAll
+  denies o e f g _ _ = record {
+    table-same = e;
+    log-same = f;
+    state-is = g;
+    out-of-range = λ cells log. rw g (no-state R (R .counted) cells log);
+  }
+
+  pub set-up-unaltered : (r : Refusal) → setUpOf R n v fresh t l .answer ≡ Refused r → NotSetUp R t l (setUpOf R n v fresh t l)
+  unfolding setUpOf KeepsAll
+  set-up-unaltered =
+      pick-ind KeepsAll (readersFit n) _ _
+      (λ _. pick-ind KeepsAll (leb (R .cells n) (length t)) _ _
+      (λ _. pick-ind KeepsAll (rowsFit (length l)) _ _ (λ _ r e. never (sym (ap isRefused e))) (λ _. denies _ refl refl refl))
+      (λ _. denies _ refl refl refl)) (λ _. denies _ refl refl refl)

@@ -8,7 +8,7 @@ use lib.Dec.{T}
 use lib.ListN.{length, length-set}
 use lib.Seq.{take-at, drop-at}
 use Rattle.words.specs.Counting.{one}
-use Rattle.history.specs.Swept.{Swept}
+use Rattle.history.specs.Stepwise.{Stepwise}
 use Rattle.history.specs.WellFormed.{wellFormed}
 use Rattle.history.proofs.Theorems.{swept-ordered, swept-without-bands}
 use Rattle.common.specs.Calls.{Call, step, retire, CallBy}
@@ -111,7 +111,7 @@ module _ {Stamp Cell : Type 0} (R : Rules) (B : Telling Stamp Cell) (WIs : ℕ �
     cells-stand p h gone c = subst (λ (k : ℕ). Stand (place k) (Has k) p (r .table) (next R n v fresh t l cs c .table)) n-is (remains p h gone c .0)
 
     -- A log that is swept row by row has an order, and no row of it is a band.
-    pub as-book : (F : ℕ) × (fl : ℕ → ℕ) × (w : ℕ) × Swept (b .rows) F fl w → AsBook R B n v fresh t l cs
+    pub as-book : (F : ℕ) × (fl : ℕ → ℕ) × (w : ℕ) × Stepwise (b .rows) F fl w → AsBook R B n v fresh t l cs
     as-book swept =
         let A = start .runs .rel in
         record {

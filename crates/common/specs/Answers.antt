@@ -3,6 +3,7 @@ use Prim.Native.Nat.{ℕ}
 use mathlib.Core.Bool.{Bool, true, not, _&&_}
 use mathlib.Core.List.{List, [], _∷_}
 use lib.Dec.{eqb}
+use lib.ListN.{getD}
 use Rattle.common.specs.declared.Refusal.{Refusal}
 use Rattle.common.specs.declared.Refusal.the-variants.{Readers, Cells, Rows, Range, Processor, Busy, Full, Idle, Retired, Spent}
 use Rattle.common.specs.declared.Answer.{Answer}
@@ -24,19 +25,7 @@ refusalNumber Idle = 8
 refusalNumber Retired = 13
 refusalNumber Spent = 14
 
--- "each call's refusal number, or that it has none": 0
-abbrev pub numberOf : Answer → ℕ
-numberOf Accepted = 0
-numberOf (Moved k) = 0
-numberOf (Refused r) = refusalNumber r
-
--- "and each sub-step's number"; 0 where there is none
-abbrev pub subStepOf : Answer → ℕ
-subStepOf Accepted = 0
-subStepOf (Moved k) = k
-subStepOf (Refused r) = 0
-
--- both: document 01's number of an answer, 0 where it is no refusal, and the values that come with it
+-- Document 01's number of an answer, 0 where it is no refusal, and the values that come with it.
 pub record Reply : Type 0 where
   pub number : ℕ
   pub values : List ℕ
@@ -45,6 +34,14 @@ abbrev pub reply : Answer → Reply
 reply Accepted = record { number = 0; values = [] }
 reply (Moved k) = record { number = 0; values = k ∷ [] }
 reply (Refused r) = record { number = refusalNumber r; values = [] }
+
+-- "each call's refusal number, or that it has none": 0
+abbrev pub numberOf : Answer → ℕ
+numberOf a = reply a .number
+
+-- "and each sub-step's number"; 0 where there is none
+abbrev pub subStepOf : Answer → ℕ
+subStepOf a = getD (reply a .values) 0 0
 
 -- no answer is refusal 4
 abbrev pub never4 : List Answer → Bool

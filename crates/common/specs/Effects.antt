@@ -2,12 +2,12 @@
 use Prim.Native.Nat.{ℕ, _<_}
 use mathlib.Core.Path.{_≡_}
 use mathlib.Core.List.{List}
-use mathlib.Core.Bool.{true}
+use mathlib.Core.Bool.{true, false}
 use lib.ListN.{length, getD, set, drop}
 use Rattle.common.specs.declared.State.{State}
 use Rattle.common.specs.State.{openIn}
 use Rattle.common.specs.Rules.{Rules, stateOk}
-use Rattle.common.specs.SetUp.{Outcome}
+use Rattle.common.specs.SetUp.{Outcome, noState}
 
 -- "a bus that moves one word at a time between two fixed parts": a sub-step of processor p, by what comes of the processor and of the
 -- table t, moves one word of the table, from or to another processor. place i j: where the cell from i to j stands; Has i j: there is one.
@@ -52,3 +52,11 @@ pub record SetsUp (R : Rules) (n : ℕ) (t l : List ℕ) (o : Outcome) : Type 0 
   pub cells-beyond : drop (R .cells n) (o .table) ≡ drop (R .cells n) t
   pub rows-beyond : drop 1 (o .log) ≡ drop 1 l
   pub passes : Passes R o
+
+-- one that is refused: "A no gives its number and alters nothing." What it returns is no register's state: with every table and log each call
+-- on it is 4
+pub record NotSetUp (R : Rules) (t l : List ℕ) (o : Outcome) : Type 0 where
+  pub table-same : o .table ≡ t
+  pub log-same : o .log ≡ l
+  pub state-is : o .state ≡ noState (R .counted)
+  pub out-of-range : (cells log : ℕ) → stateOk R (o .state) cells log ≡ false

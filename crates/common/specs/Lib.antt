@@ -5,6 +5,7 @@ pub mod Head
 pub mod State
 pub mod Rules
 pub mod SetUp
+pub mod SetUpMeaning
 pub mod Register
 pub mod Book
 pub mod Moves

@@ -67,13 +67,20 @@ noState counted = freshState counted 0 0 0
 abbrev pub startRow : ℕ → ℕ → ℕ
 startRow n v = rowOf 5 n v
 
--- "are there 1 to 16 readers (1)? At least n²+n cells (2)? Is the log 3 to 4,096 rows (3)?" "Set-up writes row 0 only". Of the counted
--- register "questions 2 and 4 take n² cells".
+-- "are there 1 to 16 readers (1)?"
+abbrev pub readersFit : ℕ → Bool
+readersFit n = leb 1 n && leb n 16
+
+-- "Is the log 3 to 4,096 rows (3)?"
+abbrev pub rowsFit : ℕ → Bool
+rowsFit rows = leb 3 rows && leb rows 4096
+
+-- These, and between them "At least n²+n cells (2)?" "Set-up writes row 0 only". Of the counted register "questions 2 and 4 take n² cells".
 unfoldable pub setUpOf : Rules → ℕ → ℕ → ℕ → List ℕ → List ℕ → Outcome
 setUpOf R n v fresh t l =
-    pick (leb 1 n && leb n 16)
+    pick (readersFit n)
     (pick (leb (R .cells n) (length t))
-    (pick (leb 3 (length l) && leb (length l) 4096)
+    (pick (rowsFit (length l))
     (record {
       answer = Accepted;
       state = freshState (R .counted) n fresh (length l);

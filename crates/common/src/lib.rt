@@ -29,6 +29,7 @@ pub enum Answer {
 
 // The head of a state: whether it is the counted register's, the number of open operations, those of retired readers left out, the number
 // of readers, the log's length and its used rows. The number of open operations is second since there it makes the state no larger.
+#[repr(C)]
 pub struct Head {
     pub counted: bool,
     pub opens: u8,
@@ -40,6 +41,7 @@ pub struct Head {
 // The writer: of an open write the value and the words moved. The stamp of its last ended write: of the first register a pair of tickets,
 // beside which an open write has the tickets excluded by the cells read so far and, once it is taken, the new ticket; of the counted
 // register a count.
+#[repr(C)]
 pub struct Writer {
     pub active: bool,
     pub moved: u8,
@@ -54,6 +56,7 @@ pub struct Writer {
 // its own stamp; whether the read is in its second attempt; of the attempt the word of its first look, whether the second look had the
 // same stamp, and whether another reader's cell was found, which is then the result, and at the end that of the value and stamp to
 // store.
+#[repr(C)]
 pub struct Reader {
     pub retired: bool,
     pub active: bool,
@@ -67,6 +70,7 @@ pub struct Reader {
 }
 
 // The state of either register. Of the readers the first n count.
+#[repr(C)]
 pub struct State {
     pub head: Head,
     pub writer: Writer,

@@ -5,6 +5,7 @@ pub mod Atomic
 pub mod Range
 pub mod Effects
 pub mod Laws
+pub mod SetUp
 pub mod TurnRel
 pub mod Counts
 pub mod Whole

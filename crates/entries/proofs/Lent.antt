@@ -1,16 +1,15 @@
--- What the walks of the entries share: what holds of a state that is lent, of the table and the log beside it, and of the numbers behind them. `LentWalk.antt` and `KeptWalk.antt` have the walks of the entries of one number; `begin`, which has two, goes through its own code.
---     mach, said, told, slice        the machine values of a state, an answer, a `Called` and a slice
---     IsState, IsAnswer      what whoever holds a state or an answer knows of it;        …-is, …-in, …-typed     how it is come by, and that the machine value has its MIR type
+-- What the walks of the entries share: what holds of a state that is lent, of the table and the log beside it, and of the numbers behind them. The walks themselves go by how many numbers there are, which shift every place: `LentOne`, `LentTwo`, `LentThree`, `LocalOne`, `LocalTwo`.
+--     mach, told, slice      the machine values of a state, a `Worded` and a slice
+--     IsState                what whoever holds a state knows of it;        …-is, …-in, …-fits, …-typed     how it is come by, and that the machine value has its MIR type
 --     takes, puts            a state that lies in memory, as the cell that code reads and writes, and back
 --     ended                  what a callee says of the last table and log, taken apart, with the fact that it ensures
 --     number                 what a u32 owns is had for nothing
 --     asks-value, asks-lent  what a call asks that takes the state by value, and one that is lent it
 --     ends-lent, ends-value  what a function owns at exit that was lent the state, and one that took it by value
---     Lent, Value            the contract of a function of one number that was lent the state, and of one that took it by value: what it answers and leaves is Of
 --     held, words            a local that holds a value of the type, and the type of a pointer to words, in MIR
 --     by-walk                a walk of a function's code, which cites the contract d of its callee f, as a triple of the function's routine
 -- `by-walk` assumes nothing, and the rest `Given`.
-use mathlib.Core.Path.{_≡_, refl, subst}
+use mathlib.Core.Path.{_≡_, refl, sym, ap, subst}
 use Prim.Native.Nat.{ℕ, _<_, _^_}
 use mathlib.Core.List.{[], _∷_, List}
 use lib.Dec.{T as Holds}
@@ -37,39 +36,26 @@ use denote.Plain.{uint-makes}
 use denote.Builtin.{u32, u64}
 use denote.Ref.{RefT, MutRef}
 use denote.Slice.{sliceVal, MutSlice, finally}
-use denote.Steps.{owned, facts, heard, nothing}
+use denote.Steps.{only, owned, facts, heard, nothing}
 use denote.Struct.Steps.{spelt}
 use denote.Struct.Laws as SL
-use denote.Enum.Laws as EL
 use denote.Triple.Clauses.{Ended, Clauses, closing}
 use denote.Triple.Spec.{tripleOf}
 use denote.Triple.Statement.{Contract, Triple}
 use denote.Triple.Table.{entered, cited}
 use denote.Triple.Walked.{Stays, AllGo, Walks, walk-meets}
-use Rattle.common.specs.Answers.{reply}
-use Rattle.common.specs.SetUp.{Outcome}
 use Rattle.common.specs.declared.State.{State}
-use Rattle.common.specs.declared.Answer.{Answer}
 use Rattle.common.proofs.State as T
 use Rattle.common.proofs.State.Laws as T′
-use Rattle.common.proofs.Answer as N
-use Rattle.common.proofs.Answer.Laws as N′
-use Rattle.register.specs.Contract.{outcome}
-use Rattle.register.specs.declared.calls.Called.{Called}
-use Rattle.register.proofs.calls.Called as D
-use Rattle.register.proofs.calls.Called.Laws as D′
-use Rattle.register.proofs.calls.step as value
-use Rattle.entries.specs.Contract.{left}
-use Rattle.entries.proofs.step as lent
+use Rattle.entries.specs.declared.Worded.{Worded}
+use Rattle.entries.proofs.Worded as D
+use Rattle.entries.proofs.Worded.Laws as D′
 
 -- ---- the machine values
 abbrev pub mach : State → Val
 mach h = SL.val T.the-type T′.the-laws h
 
-abbrev pub said : Answer → Val
-said a = EL.val N.the-type N′.the-laws a
-
-abbrev pub told : Called → Val
+abbrev pub told : Worded → Val
 told r = SL.val D.the-type D′.the-laws r
 
 abbrev pub slice : RefT (List ℕ) → Val
@@ -83,30 +69,27 @@ Tokens κ₁ κ₂ q₁ q₂ = ‵ (flft κ₁ q₁) ⊛ ‵ (flft κ₂ q₂) �
 abbrev pub IsState : State → Type 0
 IsState h = Is T.the-row h (mach h ∷ [])
 
-abbrev pub IsAnswer : Answer → Type 0
-IsAnswer a = Is N.the-row a (said a ∷ [])
+pub word-fits : (c : ℕ) (w : Val) → Is u64 c (w ∷ []) → c < 2 ^ 64
+word-fits c w is = is .1
 
-pub answer-is : (a : Answer) (w : Val) → Is N.the-row a (w ∷ []) → IsAnswer a
-answer-is a w is = subst (Is N.the-row a) (EL.tells N.the-type N′.the-laws a _ is) is
+pub word-typed : (c : ℕ) (w : Val) → Is u64 c (w ∷ []) → Holds (hasTy (tyInt w64) w) × WT w
+word-typed c w is = subst (λ (v : Val). Holds (hasTy (tyInt w64) v) × WT v) (sym (ap only (is .0))) (tt, record { fits = is .1 })
 
-pub called-is : (r : Called) → IsAnswer (r .answer) → IsState (r .state) → Is D.the-row r (told r ∷ [])
-called-is r is-a is-s = SL.owes D.the-type D′.the-laws r (is-a, (is-s, tt))
+pub told-is : (r : Worded) → r .word < 2 ^ 64 → IsState (r .state) → Is D.the-row r (told r ∷ [])
+told-is r fits is-s = SL.owes D.the-type D′.the-laws r ((refl, fits), (is-s, tt))
 
-pub answer-in : (r : Called) (w : Val) → Is D.the-row r (w ∷ []) → IsAnswer (r .answer)
-answer-in r w is = SL.owed D.the-type D′.the-laws r _ is .0
+pub word-in : (r : Worded) (w : Val) → Is D.the-row r (w ∷ []) → r .word < 2 ^ 64
+word-in r w is = SL.owed D.the-type D′.the-laws r _ is .0 .1
 
-pub state-in : (r : Called) (w : Val) → Is D.the-row r (w ∷ []) → IsState (r .state)
+pub state-in : (r : Worded) (w : Val) → Is D.the-row r (w ∷ []) → IsState (r .state)
 state-in r w is = SL.owed D.the-type D′.the-laws r _ is .1 .0
 
 module _ {M : Type 1} (𝓤 : URA M) (H : Heap 𝓤) (A : Atoms 𝓤) (W : Given 𝓤 H A) where
   pub state-typed : (h : State) → IsState h → Holds (hasTy T′.mir (mach h)) × WT (mach h)
   state-typed h is = SL.lawful T.the-type T′.the-laws 𝓤 H A W .typed h _ is .0
 
-  pub answer-typed : (a : Answer) (w : Val) → Is N.the-row a (w ∷ []) → Holds (hasTy N′.mir w) × WT w
-  answer-typed a w is = EL.lawful N.the-type N′.the-laws 𝓤 H A W tt .typed a _ is .0
-
-  pub called-typed : (r : Called) (w : Val) → Is D.the-row r (w ∷ []) → Holds (hasTy D′.mir w) × WT w
-  called-typed r w is = SL.lawful D.the-type D′.the-laws 𝓤 H A W .typed r _ is .0
+  pub told-typed : (r : Worded) (w : Val) → Is D.the-row r (w ∷ []) → Holds (hasTy D′.mir w) × WT w
+  told-typed r w is = SL.lawful D.the-type D′.the-laws 𝓤 H A W .typed r _ is .0
 
 -- ---- steps of a walk
 module _ {M : Type 1} {𝓤 : URA M} {H : Heap 𝓤} {A : Atoms 𝓤} {K : Type 0} {W : Given 𝓤 H A} {Γ : List (Item 𝓤)} {G : Goal 𝓤 H} where
@@ -154,18 +137,18 @@ module _ {M : Type 1} (𝓤 : URA M) (H : Heap 𝓤) (A : Atoms 𝓤) (W : Given
         qed W ((‵ (flft κ q) ⊛ Tokens κ₁ κ₂ q₁ q₂) ∷ ‵ (MutRef (named 0) κ T.the-row .own (record { ptr = (b, o); name = γ; now = h }) (vptr b o ∷ [])) ∷ (‵ (MutSlice (named 0) κ₁ u64 .own y (slice y ∷ [])) ⊛ ‵ (MutSlice (named 1) κ₂ u64 .own z (slice z ∷ []))) ∷ []) ∵
         move ! (2 ∷ []) $ split ! $ use0 W (‵ (owns Ts a ns)) numbers $ move ! (2 ∷ 0 ∷ []) $ fjoin ! $ move ! (1 ∷ 0 ∷ []) $ fjoin ! $ move ! (2 ∷ 0 ∷ []) $ fjoin ! $ move ! (1 ∷ 0 ∷ []) $ join ! $ nothing ! $ move ! (1 ∷ 0 ∷ []) $ done !
 
-    pub ends-lent : (κ : Lft) (q : Share) (b o : ℕ) (γ : GName) (h : State) (us vs : List ℕ) (c : Answer) → IsAnswer c
+    pub ends-lent : (κ : Lft) (q : Share) (b o : ℕ) (γ : GName) (h : State) (us vs : List ℕ) (c : ℕ) → c < 2 ^ 64
         → ent 𝓤 (⋆ 𝓤 H A (‵ (fobs γ (T.the-row .coded .code h)) ∷ ‵ (fbor κ (Body (mem T.the-row) b o γ)) ∷ ‵ (flft κ q) ∷ Tokens κ₁ κ₂ q₁ q₂ ∷ ‵ (finally u64 (y .name) us) ∷ ‵ (finally u64 (z .name) vs) ∷ []))
         (sep 𝓤 (sep 𝓤 (A .lft κ q) (mean 𝓤 H A (Tokens κ₁ κ₂ q₁ q₂)))
         (sep 𝓤 (sem 𝓤 H A (fsep (MutRef (named 0) κ T.the-row .own (record { ptr = (b, o); name = γ; now = h }) (vptr b o ∷ [])) (fsep (finally u64 (y .name) us) (fsep (finally u64 (z .name) vs) (owns Ts a ns)))))
-        (sem 𝓤 H A (N.the-row .own c (said c ∷ [])))))
-    ends-lent κ q b o γ h us vs c is =
+        (sem 𝓤 H A (u64 .own c (vint w64 c ∷ [])))))
+    ends-lent κ q b o γ h us vs c fits =
         qed W (‵ (fobs γ (T.the-row .coded .code h)) ∷ ‵ (fbor κ (Body (mem T.the-row) b o γ)) ∷ ‵ (flft κ q) ∷ Tokens κ₁ κ₂ q₁ q₂ ∷ ‵ (finally u64 (y .name) us) ∷ ‵ (finally u64 (z .name) vs) ∷ []) ∵
         move ! (2 ∷ 3 ∷ []) $ join ! $ frame ! $ feqI ! (List Val) (vptr b o ∷ []) (vptr b o ∷ []) refl $ fjoin3 ! $
         use0 W (‵ (owns Ts a ns)) numbers $ move ! (3 ∷ 0 ∷ []) $ fjoin ! $ move ! (2 ∷ 0 ∷ []) $ fjoin ! $ move ! (1 ∷ 0 ∷ []) $ fjoin ! $
-        owned ! N.the-row (Is N.the-row) (EL.makes N.the-type N′.the-plain 𝓤 H A) c _ is $ move ! (1 ∷ 0 ∷ []) $ done !
+        owned ! u64 (Is u64) (uint-makes 𝓤 H A W w64) c _ (refl, fits) $ move ! (1 ∷ 0 ∷ []) $ done !
 
-    pub ends-value : (h : State) → IsState h → (us vs : List ℕ) (r : Called) → Is D.the-row r (told r ∷ []) → ent 𝓤 (⋆ 𝓤 H A (Tokens κ₁ κ₂ q₁ q₂ ∷ ‵ (finally u64 (y .name) us) ∷ ‵ (finally u64 (z .name) vs) ∷ []))
+    pub ends-value : (h : State) → IsState h → (us vs : List ℕ) (r : Worded) → Is D.the-row r (told r ∷ []) → ent 𝓤 (⋆ 𝓤 H A (Tokens κ₁ κ₂ q₁ q₂ ∷ ‵ (finally u64 (y .name) us) ∷ ‵ (finally u64 (z .name) vs) ∷ []))
         (sep 𝓤 (mean 𝓤 H A (Tokens κ₁ κ₂ q₁ q₂))
         (sep 𝓤 (sem 𝓤 H A (fsep (T.the-row .own h (mach h ∷ [])) (fsep (finally u64 (y .name) us) (fsep (finally u64 (z .name) vs) (owns Ts a ns)))))
         (sem 𝓤 H A (D.the-row .own r (told r ∷ [])))))
@@ -173,29 +156,6 @@ module _ {M : Type 1} (𝓤 : URA M) (H : Heap 𝓤) (A : Atoms 𝓤) (W : Given
         qed W (Tokens κ₁ κ₂ q₁ q₂ ∷ ‵ (finally u64 (y .name) us) ∷ ‵ (finally u64 (z .name) vs) ∷ []) ∵ frame ! $
         use0 W (‵ (owns Ts a ns)) numbers $ move ! (2 ∷ 0 ∷ []) $ fjoin ! $ move ! (1 ∷ 0 ∷ []) $ fjoin ! $ owned ! T.the-row (Is T.the-row) (SL.makes T.the-type T′.the-plain 𝓤 H A) h _ is $ fjoin ! $
         owned ! D.the-row (Is D.the-row) (SL.makes D.the-type D′.the-plain 𝓤 H A) r _ is-r $ move ! (1 ∷ 0 ∷ []) $ done !
-
--- ---- the contracts of the functions of one number. `retire` has the signature of `step`, on each side of the call
-module _ (Of : State → List ℕ → List ℕ → ℕ → Outcome) {M : Type 1} (𝓤 : URA M) where
-  abbrev pub LentSays : Clauses 𝓤 lent.ended
-  LentSays κs a = record {
-    ghost = Unit {0};
-    requires = λ _. emp 𝓤;
-    ensures = λ _ r e. fact 𝓤 ((left r (e .0 .now) (e .1 .0 .now) (e .1 .1 .0 .now) ≡ Of (a .0 .now) (a .1 .0 .now) (a .1 .1 .0 .now) (a .1 .1 .1 .0)) × (reply r ≡ reply (Of (a .0 .now) (a .1 .0 .now) (a .1 .1 .0 .now) (a .1 .1 .1 .0) .answer)));
-  }
-
-  abbrev pub ValueSays : Clauses 𝓤 value.ended
-  ValueSays κs a = record {
-    ghost = Unit {0};
-    requires = λ _. emp 𝓤;
-    ensures = λ _ r e. fact 𝓤 ((outcome r (e .1 .0 .now) (e .1 .1 .0 .now) ≡ Of (a .0) (a .1 .0 .now) (a .1 .1 .0 .now) (a .1 .1 .1 .0)) × (reply (r .answer) ≡ reply (Of (a .0) (a .1 .0 .now) (a .1 .1 .0 .now) (a .1 .1 .1 .0) .answer)));
-  }
-
-  module _ (H : Heap 𝓤) (A : Atoms 𝓤) where
-    abbrev pub Lent : Contract 𝓤
-    Lent = tripleOf 𝓤 H A lent.signature (closing 𝓤 H A lent.ended LentSays)
-
-    abbrev pub Value : Contract 𝓤
-    Value = tripleOf 𝓤 H A value.signature (closing 𝓤 H A value.ended ValueSays)
 
 -- ---- the code, and how a walk of it reaches the routine
 abbrev pub held : Ty → Local

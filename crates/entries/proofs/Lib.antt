@@ -1,3 +1,11 @@
-mod KeptWalk
+mod LocalOne
+mod LocalTwo
 mod Lent
-mod LentWalk
+mod LentOne
+mod LentThree
+mod LentTwo
+mod OfOne
+mod OfThree
+mod OfTwo
+pub mod Unaltered
+mod Words

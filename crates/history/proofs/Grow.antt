@@ -45,7 +45,7 @@ module _ (log : List ℕ) (x : ℕ) where
   unfolding openAt
   grown-open i zero a = refl
   grown-open i (suc zero) a = refl
-  grown-open i (suc (suc k)) a = rw (grown-proc (suc k) (omega arith), grown-kind (suc k) (omega arith), grown-open i (suc k) (omega arith))
+  grown-open i (suc (suc k)) a = rw (grown-proc (suc k) (omega arith), grown-at (suc k) (omega arith), grown-open i (suc k) (omega arith))
 
   -- An ended operation keeps its end; an open one ends at the new row if that is of its processor.
   pub grown-next : (b e : ℕ) → Next log b e → Next (grown log x) b e

@@ -9,6 +9,7 @@ pub mod FromOrder
 pub mod Rising
 pub mod Built
 pub mod Operations
+pub mod Form
 pub mod WellFormed
 pub mod Verdict
 pub mod Source
@@ -17,7 +18,7 @@ pub mod Grow
 pub mod Grown
 pub mod Unique
 pub mod EarliestLaws
-pub mod Swept
+pub mod Stepwise
 pub mod NoBands
 pub mod Instants
 pub mod Regular

@@ -11,9 +11,9 @@ use Rattle.words.proofs.Laws.Choice.{T-left, T-right}
 use Rattle.history.specs.Rows.{kindBits}
 use Rattle.history.specs.WellFormed.{headOk, wellFormed}
 use Rattle.history.specs.Bands.{NoBands}
-use Rattle.history.specs.Swept.{Swept, starts, write-begins, write-ends, read-begins, read-ends}
+use Rattle.history.specs.Stepwise.{Stepwise, starts, write-begins, write-ends, read-begins, read-ends}
 use Rattle.history.proofs.Grow.{grown, grown-length, grown-at}
-use Rattle.history.proofs.Swept.{swept-some}
+use Rattle.history.proofs.Stepwise.{swept-some}
 
 -- Behind its last row a log has none.
 no-row : (log : List ℕ) (k : ℕ) → length log ≤ k → kindBits (getD log k 0) ≢ 6
@@ -32,14 +32,14 @@ more log x some low f p k = elim (decLt k (length log)) [
 ]
 
 -- The rows behind the first have the kinds 1 to 4.
-from-head : {log : List ℕ} {F : ℕ} {fl : ℕ → ℕ} {w : ℕ} → Swept log F fl w → Plain log
+from-head : {log : List ℕ} {F : ℕ} {fl : ℕ → ℕ} {w : ℕ} → Stepwise log F fl w → Plain log
 from-head (starts x fl) = λ p k. elim k [ zero ↦ p | suc j ↦ no-row (x ∷ []) (suc j) (omega arith) ]
 from-head (write-begins {log = l} x e o s) = more l x (swept-some s) (omega arith) (from-head s)
 from-head (write-ends {log = l} x e o s) = more l x (swept-some s) (omega arith) (from-head s)
 from-head (read-begins {log = l} x i e o s) = more l x (swept-some s) (omega arith) (from-head s)
 from-head (read-ends {log = l} x i q e o S h s) = more l x (swept-some s) (omega arith) (from-head s)
 
-pub swept-plain : {log : List ℕ} {F : ℕ} {fl : ℕ → ℕ} {w : ℕ} → Swept log F fl w → T (wellFormed log) → NoBands log
+pub swept-plain : {log : List ℕ} {F : ℕ} {fl : ℕ → ℕ} {w : ℕ} → Stepwise log F fl w → T (wellFormed log) → NoBands log
 unfolding wellFormed headOk
 swept-plain {log = log} s t =
     let h : T (headOk (getD log 0 0)) = T-left (headOk (getD log 0 0)) _ (T-right (ltb 0 (length log)) _ t) in

@@ -3,7 +3,7 @@ use Prim.Native.Nat.{ℕ, suc, zero, _≤_, _<_}
 use native.Mathlib.Omega.{arith}
 use native.Mathlib.Decide.{ℕ-discrete}
 use mathlib.Core.Path.{_≡_, refl, _∙_, sym}
-use mathlib.Core.Bool.{Bool, not}
+use mathlib.Core.Bool.{Bool, not, _||_}
 use mathlib.Core.Logic.{_⊎_, inl, inr, _≢_}
 use mathlib.Core.List.{List}
 use lib.Dec.{T, T-not, eqb, leb, eqb→eq, leb→le, ltb→lt}
@@ -24,13 +24,18 @@ pub record RowOk (log : List ℕ) (k : ℕ) : Type 0 where
   pub begins : (kindAt log k ≡ 1) ⊎ (kindAt log k ≡ 3) → openAt log (processorAt log k) k ≡ 0
   pub ends : (kindAt log k ≡ 2) ⊎ (kindAt log k ≡ 4) → 0 < openAt log (processorAt log k) k
 
+-- A begin, by its kind.
+pub begin-is : (log : List ℕ) (k : ℕ) → beginsAt log k ≡ (eqb (kindAt log k) 1 || eqb (kindAt log k) 3)
+unfolding begins kindAt
+begin-is log k = refl
+
 begin-T : (log : List ℕ) (k : ℕ) → (kindAt log k ≡ 1) ⊎ (kindAt log k ≡ 3) → T (beginsAt log k)
-begin-T log k (inl e) = rw e tt
-begin-T log k (inr e) = rw e tt
+begin-T log k (inl e) = rw (begin-is log k, e) tt
+begin-T log k (inr e) = rw (begin-is log k, e) tt
 
 end-T : (log : List ℕ) (k : ℕ) → (kindAt log k ≡ 2) ⊎ (kindAt log k ≡ 4) → T (not (beginsAt log k))
-end-T log k (inl e) = rw e tt
-end-T log k (inr e) = rw e tt
+end-T log k (inl e) = rw (begin-is log k, e) tt
+end-T log k (inr e) = rw (begin-is log k, e) tt
 
 -- What the fields say, by the kind that they tell.
 pub record Fields (k p z v n : ℕ) : Type 0 where
@@ -75,11 +80,6 @@ fields→ k p z v n t =
     (λ _ u. absurd u)))))
     (T-right (eqb z 0) _ t)
 
--- The test of a begin.
-pub begin-is : (log : List ℕ) (k : ℕ) → begins (getD log k 0) ≡ beginsAt log k
-unfolding begins kindAt
-begin-is log k = refl
-
 alternates-begin : (x o : ℕ) → T (alternates x o) → T (begins x) → o ≡ 0
 unfolding alternates
 alternates-begin x o = pick-T (λ b. T b → T (begins x) → o ≡ 0) (begins x) (λ _ t _. eqb→eq o 0 t) (λ n _ b. absurd (T-not (begins x) n b))
@@ -100,8 +100,8 @@ row→ log k t =
       silent = f .silent;
       writer = f .writer;
       reader = f .reader;
-      begins = λ a. alternates-begin _ _ u (rw (begin-is log k) (begin-T log k a));
-      ends = λ a. alternates-end _ _ u (rw (begin-is log k) (end-T log k a));
+      begins = λ a. alternates-begin _ _ u (begin-T log k a);
+      ends = λ a. alternates-end _ _ u (end-T log k a);
     }
 
 pub all-at : (f : ℕ → Bool) (n k : ℕ) → T (all f n) → 0 < k → k < n → T (f k)

@@ -33,6 +33,10 @@ pub implied : {a b : Bool} {P Q : Type 0} → Tests a P → Tests b Q → Tests 
 implied {a = true} p q = record { only-if = λ t x. q .only-if t; if = λ f. q .if (f (p .only-if tt)) }
 implied {a = false} p q = record { only-if = λ t x. absurd (p .if x); if = λ f. tt }
 
+pub chosen : {a b c : Bool} {P Q R : Type 0} → Tests a P → Tests b Q → Tests c R → Tests (pick a b c) ((P → Q) × (¬ P → R))
+chosen {a = true} p q r = record { only-if = λ t. (λ _. q .only-if t, λ n. absurd (n (p .only-if tt))); if = λ x. q .if (x .0 (p .only-if tt)) }
+chosen {a = false} p q r = record { only-if = λ t. (λ x. absurd (p .if x), λ _. r .only-if t); if = λ x. r .if (x .1 (p .if)) }
+
 pub itself : (b : Bool) → Tests b (T b)
 itself b = record { only-if = λ t. t; if = λ t. t }
 

@@ -16,7 +16,7 @@ use Rattle.history.specs.Regular.{Precedence, IsAtomic}
 use Rattle.history.specs.Shrinking.{IsAtomicRun}
 use Rattle.history.specs.Sweep.{missing}
 use Rattle.history.specs.Listing.{listing}
-use Rattle.history.specs.Swept.{Swept}
+use Rattle.history.specs.Stepwise.{Stepwise}
 use Rattle.history.proofs.Placement.{Laws}
 use Rattle.history.proofs.WellFormed.{laws}
 use Rattle.history.proofs.Least.{sound}
@@ -25,7 +25,7 @@ use Rattle.history.proofs.Built.{ordered}
 use Rattle.history.proofs.Verdict.{found, before-missing, has-order}
 use Rattle.history.proofs.EarliestLaws.{listing-earliest, unique}
 use Rattle.history.proofs.Bands.{may-stand, result-only}
-use Rattle.history.proofs.Swept.{swept-placed}
+use Rattle.history.proofs.Stepwise.{swept-placed}
 use Rattle.history.proofs.NoBands.{swept-plain}
 use Rattle.history.proofs.Regular.{strict, atomic-placed, placed-atomic}
 use Rattle.history.proofs.Shrinking.{run-placed, shrunk}
@@ -56,13 +56,13 @@ module _ (log : List ℕ) (formed : T (wellFormed log)) where
       (λ t. has-order (historyOf log) L (t .0) (t .1), λ e. (_, before-missing (historyOf log) L (length log) (omega arith)))
 
   -- A log swept row by row, with whatever sources, has an order.
-  pub swept-ordered : {F : ℕ} {fl : ℕ → ℕ} {w : ℕ} → Swept log F fl w → (l : List ℕ) × Orders log l
+  pub swept-ordered : {F : ℕ} {fl : ℕ → ℕ} {w : ℕ} → Stepwise log F fl w → (l : List ℕ) × Orders log l
   swept-ordered s =
       let p = swept-placed s formed in
       (_, ordered (historyOf log) L (length log) (p .0) (p .1))
 
   -- Such a log holds no band.
-  pub swept-without-bands : {F : ℕ} {fl : ℕ → ℕ} {w : ℕ} → Swept log F fl w → NoBands log
+  pub swept-without-bands : {F : ℕ} {fl : ℕ → ℕ} {w : ℕ} → Stepwise log F fl w → NoBands log
   swept-without-bands s = swept-plain s formed
 
   -- What an ended read may stand behind is what the papers say, by the row that ends it.

@@ -16,10 +16,10 @@ use Rattle.history.specs.Search.{first}
 use Rattle.history.proofs.Search.{first-ge, first-le, first-passes, first-least, first-is}
 use Rattle.history.specs.Rows.{kindOf, kindAt, processorAt, beginsAt}
 use Rattle.history.specs.WellFormed.{openAt, headOk, rowOk, wellFormed}
-use Rattle.history.proofs.Operations.{RowOk, row→, all-at, Opened, open-le, open→, →open}
+use Rattle.history.proofs.Operations.{RowOk, begin-is, row→, all-at, Opened, open-le, open→, →open}
 
 pub begin→ : (log : List ℕ) (k : ℕ) → T (beginsAt log k) → (kindAt log k ≡ 1) ⊎ (kindAt log k ≡ 3)
-begin→ log k = go (eqb (kindAt log k) 1) (eqb (kindAt log k) 3) (eqb→eq _ _) (eqb→eq _ _)
+begin→ log k = rw (begin-is log k) (go (eqb (kindAt log k) 1) (eqb (kindAt log k) 3) (eqb→eq _ _) (eqb→eq _ _))
   where
     go : (a b : Bool) → (T a → kindAt log k ≡ 1) → (T b → kindAt log k ≡ 3) → T (a || b) → (kindAt log k ≡ 1) ⊎ (kindAt log k ≡ 3)
     go true b f g t = inl (f tt)
@@ -108,8 +108,8 @@ module _ (log : List ℕ) (wf : T (wellFormed log)) where
       go (inr p) (no k) (no k′) (no k″) = inr (p, omega (arith, y .low, y .high))
 
   begin-of : (k c : ℕ) → eventAt log k ≡ c → (c ≡ 1) ⊎ (c ≡ 3) → 0 < k → T (beginsAt log k)
-  begin-of k c e (inl f) a = rw (← kind-is k a, e, f) tt
-  begin-of k c e (inr f) a = rw (← kind-is k a, e, f) tt
+  begin-of k c e (inl f) a = rw (begin-is log k, ← kind-is k a, e, f) tt
+  begin-of k c e (inr f) a = rw (begin-is log k, ← kind-is k a, e, f) tt
 
   real : (k c : ℕ) → eventAt log k ≡ c → 1 < c → 0 < k
   unfolding eventAt

@@ -1,6 +1,7 @@
 pub mod Search
 pub mod Rows
 pub mod WellFormed
+pub mod Form
 pub mod History
 pub mod Bands
 pub mod Linearization
@@ -12,4 +13,4 @@ pub mod Shrinking
 pub mod Sweep
 pub mod Chosen
 pub mod Listing
-pub mod Swept
+pub mod Stepwise

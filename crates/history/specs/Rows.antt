@@ -59,4 +59,4 @@ unfoldable pub valueAt : List ℕ → ℕ → ℕ
 valueAt log k = valueOf (getD log k 0)
 
 abbrev pub beginsAt : List ℕ → ℕ → Bool
-beginsAt log k = eqb (kindAt log k) 1 || eqb (kindAt log k) 3
+beginsAt log k = begins (getD log k 0)

@@ -1,4 +1,4 @@
--- Question 10: "Rows well formed".
+-- Question 10: "Rows well formed". The test; what it asks for is in Form.
 use Prim.Native.Nat.{ℕ, suc, zero}
 use mathlib.Core.Bool.{Bool, true, false, _&&_}
 use mathlib.Core.List.{List}
@@ -45,7 +45,7 @@ alternates w b = pick (begins w) (eqb b 0) (ltb 0 b)
 unfoldable pub rowOk : List ℕ → ℕ → Bool
 rowOk log k = fieldsOk (getD log k 0) (processorAt log 0) && alternates (getD log k 0) (openAt log (processorAt log k) k)
 
--- f holds of the numbers from 1 up to n
+-- f holds of the numbers from 1 on that are below n
 unfoldable pub all : (ℕ → Bool) → ℕ → Bool
 all f zero = true
 all f (suc zero) = true

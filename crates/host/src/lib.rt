@@ -8,7 +8,7 @@ ghost use Rattle.common.specs.Answers.{numberOf};
 ghost use Rattle.lists.specs.Run.{runWordsOf};
 ghost use Rattle.protocol.specs.Rules.{ticketRules};
 ghost use Rattle.counted.specs.Rules.{countedRules};
-ghost use Rattle.host.specs.Host.{resultOf};
+ghost use Rattle.host.specs.Host.{resultWord};
 
 // The number of an answer's refusal, or 0.
 fn number(a: Answer) -> u64
@@ -39,7 +39,7 @@ pub extern "C" fn register_run(
     log: &mut [u64],
     answers: &mut [u64],
 ) -> u64
-    ensures result { λ r. ⌜ r ≡ resultOf ticketRules readers start 0 (now (calls .entry)) (now (table .entry)) (now (log .entry)) (now (answers .entry)) ⌝ }
+    ensures result { λ r. ⌜ r ≡ resultWord ticketRules readers start 0 (now (calls .entry)) (now (table .entry)) (now (log .entry)) (now (answers .entry)) ⌝ }
     ensures table { λ r. ⌜ now (table .exit) ≡ runWordsOf ticketRules readers start 0 (now (calls .entry)) (now (table .entry)) (now (log .entry)) (now (answers .entry)) .table ⌝ }
     ensures log { λ r. ⌜ now (log .exit) ≡ runWordsOf ticketRules readers start 0 (now (calls .entry)) (now (table .entry)) (now (log .entry)) (now (answers .entry)) .log ⌝ }
     ensures answers { λ r. ⌜ now (answers .exit) ≡ runWordsOf ticketRules readers start 0 (now (calls .entry)) (now (table .entry)) (now (log .entry)) (now (answers .entry)) .places ⌝ }
@@ -61,7 +61,7 @@ pub extern "C" fn counted_run(
     log: &mut [u64],
     answers: &mut [u64],
 ) -> u64
-    ensures result { λ r. ⌜ r ≡ resultOf countedRules readers start fresh (now (calls .entry)) (now (table .entry)) (now (log .entry)) (now (answers .entry)) ⌝ }
+    ensures result { λ r. ⌜ r ≡ resultWord countedRules readers start fresh (now (calls .entry)) (now (table .entry)) (now (log .entry)) (now (answers .entry)) ⌝ }
     ensures table { λ r. ⌜ now (table .exit) ≡ runWordsOf countedRules readers start fresh (now (calls .entry)) (now (table .entry)) (now (log .entry)) (now (answers .entry)) .table ⌝ }
     ensures log { λ r. ⌜ now (log .exit) ≡ runWordsOf countedRules readers start fresh (now (calls .entry)) (now (table .entry)) (now (log .entry)) (now (answers .entry)) .log ⌝ }
     ensures answers { λ r. ⌜ now (answers .exit) ≡ runWordsOf countedRules readers start fresh (now (calls .entry)) (now (table .entry)) (now (log .entry)) (now (answers .entry)) .places ⌝ }

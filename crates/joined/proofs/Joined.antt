@@ -4,6 +4,7 @@ use Prim.Native.Nat.{ℕ, _^_, _<_}
 use mathlib.Core.Path.{_≡_, sym, subst}
 use mathlib.Core.List.{List}
 use native.Mathlib.Omega.{arith}
+use Rattle.history.proofs.Form.{log-formed}
 use Rattle.judging.specs.Answer.{numberOf}
 use Rattle.judging.specs.Meaning.{Formed}
 use Rattle.judging.proofs.Meaning.{number-if-ordered, number-by-reports}
@@ -30,7 +31,7 @@ module _ {Stamp Cell : Type 0} (R : Rules) (B : Telling Stamp Cell) (n v fresh :
       let k = test-range R (ranFrom R n v fresh t l cs .state) _ _ (w .passes-4) .head-ok in
       record {
         size = record { some = omega (arith, w .used-is, k .used-low); few = omega (arith, w .used-is, k .room, k .rows-high) };
-        formed = w .formed;
+        formed = log-formed inModel .only-if (w .formed);
       }
 
   number-0 : numberOf inModel ≡ 0

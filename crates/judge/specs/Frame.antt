@@ -78,13 +78,13 @@ abbrev mutual
 -- the judge of rows: `judge`, and what it calls
 abbrev pub ofRows : List Name
 ofRows =
-    "judge::verdict::judge"
-    ∷ "judge::verdict::settle"
-    ∷ "judge::verdict::right_length"
-    ∷ "judge::verdict::lacks_room"
-    ∷ "judge::verdict::count_begins"
-    ∷ "judge::verdict::count_after"
-    ∷ "judge::verdict::write_order"
+    "judge::rows::judge"
+    ∷ "judge::rows::settle"
+    ∷ "judge::rows::right_length"
+    ∷ "judge::rows::lacks_room"
+    ∷ "judge::rows::count_begins"
+    ∷ "judge::rows::count_after"
+    ∷ "judge::rows::write_order"
     ∷ "judge::formed::well_formed"
     ∷ "judge::formed::head_ok"
     ∷ "judge::formed::is_reader"
@@ -129,7 +129,7 @@ pub record KeepsLittle (f : Fn) : Type 0 where
 
 -- "Settle first that nothing is refused, then write": all that `judge` itself does.
 pub record SettlesFirst (f : Fn) : Type 0 where
-  pub in-turn : acts (f .body) ≡ calls "judge::verdict::settle" ∷ calls "judge::verdict::write_order" ∷ []
+  pub in-turn : acts (f .body) ≡ calls "judge::rows::settle" ∷ calls "judge::rows::write_order" ∷ []
 
 -- whether a value of a type can be written through
 abbrev mutual

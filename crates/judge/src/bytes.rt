@@ -1,24 +1,16 @@
 // The judge for the boards' host, which is C: a log as bytes, eight a row, most significant first.
-use super::verdict::number;
+use super::rows::number;
 ghost use mathlib.Core.Path.{_≡_};
 ghost use Rattle.judging.specs.Answer.{bytesNumber};
 ghost use Rattle.judging.specs.Meaning.{BytesMean};
 
-// 0, or the number of the question answered no: 9, 10 or 12. A length that is not a multiple of 8 is 9.
+// 0, or the number of the question answered no: 9, 10 or 12. A length that is not a multiple of 8 is 9, as no rows are.
 #[no_mangle]
 pub extern "C" fn judge_bytes(bytes: &[u8]) -> u32
     ensures number { λ r. ⌜ r ≡ bytesNumber (now (bytes .entry)) ⌝ }
     ensures meaning { λ r. ⌜ BytesMean (now (bytes .entry)) r ⌝ }
 {
-    let n = bytes.len();
-    if n % 8 != 0 {
-        return 9;
-    }
-    if 32768 < n {
-        return 9;
-    }
-    let count = n / 8;
     let mut rows = [0u64; 4096];
-    logbytes::read_rows(bytes, &mut rows);
+    let count = logbytes::rows_in(bytes, &mut rows);
     number(&rows[..count])
 }

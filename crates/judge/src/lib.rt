@@ -3,5 +3,5 @@ mod row; // what a row of the log says
 mod formed; // question 10: are the rows well formed?
 mod sweep; // question 12: has every read a write to stand behind?
 mod order; // the order, into lent places
-pub mod verdict; // the judge of rows
+pub mod rows; // the judge of rows
 pub mod bytes; // the judge of a log as bytes

@@ -1,7 +1,7 @@
 // What a row of the log says.
 ghost use mathlib.Core.Path.{_≡_};
 ghost use Rattle.history.specs.Rows.{kindOf, suits, begins, processorOf};
-ghost use Rattle.judging.specs.Sweeping.{openAfter};
+ghost use Rattle.judging.specs.Rowwise.{openAfter};
 
 // Units of a row's fields.
 pub(crate) const KIND: u64 = 0x1000_0000_0000_0000;

@@ -13,7 +13,7 @@ ghost use Rattle.history.specs.Search.{first};
 ghost use Rattle.history.specs.Sweep.{isSource, missing};
 ghost use Rattle.history.specs.WellFormed.{wellFormed};
 ghost use Rattle.history.specs.History.{historyOf};
-ghost use Rattle.judging.specs.Sweeping.{placeRow, floorAfter, missingAfter};
+ghost use Rattle.judging.specs.Rowwise.{placeRow, floorAfter, missingAfter};
 
 // Whether row q is the start row or the begin of a write, and the read that row k ends may stand behind it.
 fn is_source(rows: &[u64], k: usize, q: usize) -> bool

@@ -10,9 +10,11 @@ use lib.ListN.{length}
 use borrow.Author.Tests.{ltb-true, ltb-false, le-leb, lt-leb, lt-ltb, le-ltb}
 use Rattle.words.proofs.Laws.Choice.{and-T, T-left, T-right, T→true, not→false}
 use Rattle.history.specs.WellFormed.{wellFormed}
+use Rattle.history.specs.Form.{LogFormed}
 use Rattle.history.specs.History.{historyOf}
 use Rattle.history.specs.Sweep.{missing}
 use Rattle.history.specs.Listing.{listing}
+use Rattle.history.proofs.Form.{log-formed}
 use Rattle.judging.specs.Answer.{Answer, refused, noOrder, rightLength, beginsTo, cases}
 use Rattle.judging.specs.Meaning.{RightLength, Formed}
 
@@ -25,9 +27,16 @@ pub →right : (log : List ℕ) → RightLength log → T (rightLength (length l
 pub wrong : (log : List ℕ) → rightLength (length log) ≡ false → RightLength log → ⊥
 wrong log e s = rw e at (→right log s)
 
+-- a well-formed log passes its test
+pub tested : {log : List ℕ} → Formed log → T (wellFormed log)
+tested {log} F = log-formed log .if (F .formed)
+
+pub untested : {log : List ℕ} → wellFormed log ≡ false → ¬ LogFormed log
+untested {log} e L = rw e at (log-formed log .if L)
+
 -- what the code's tests say
 pub formed-is : (log : List ℕ) {a b : Bool} → a ≡ rightLength (length log) → a ≡ true → b ≡ wellFormed log → b ≡ true → Formed log
-formed-is log e t f u = record { size = right→ log (rw (sym e ∙ t) tt); formed = rw (sym f ∙ u) tt }
+formed-is log e t f u = record { size = right→ log (rw (sym e ∙ t) tt); formed = log-formed log .only-if (rw (sym f ∙ u) tt) }
 
 pub lacking : {t : Bool} {a b : ℕ} → t ≡ ltb a b → t ≡ true → a < b
 lacking {a = a} {b = b} e t = ltb-true a b (sym e ∙ t)
@@ -53,7 +62,7 @@ module _ (log : List ℕ) (n : ℕ) where
   by-room F (no a) = by-order F (omega arith) (decLt (missing (historyOf log)) (length log))
 
   by-form : RightLength log → (t : Bool) → wellFormed log ≡ t → Asked log n
-  by-form r true e = by-room (record { size = r; formed = rw e tt }) (decLt n (beginsTo log (length log)))
+  by-form r true e = by-room (record { size = r; formed = log-formed log .only-if (rw e tt) }) (decLt n (beginsTo log (length log)))
   by-form r false e = no10 r e
 
   by-length : (t : Bool) → rightLength (length log) ≡ t → Asked log n
@@ -76,18 +85,18 @@ module _ {A : Type 0} (log : List ℕ) (n : ℕ) (f g : ℕ → A) (s : List ℕ
   cases-are (no9 a) = rw (not→false (rightLength (length log)) (λ t. a (right→ log t)))
   cases-are (no10 r w) = rw (T→true (rightLength (length log)) (→right log r), w)
   cases-are (no11 F a) =
-      rw (T→true (rightLength (length log)) (→right log (F .size)), T→true (wellFormed log) (F .formed), lt-leb (beginsTo log (length log)) n a)
+      rw (T→true (rightLength (length log)) (→right log (F .size)), T→true (wellFormed log) (tested F), lt-leb (beginsTo log (length log)) n a)
   cases-are (no12 F a b) =
       rw (
         T→true (rightLength (length log)) (→right log (F .size)),
-        T→true (wellFormed log) (F .formed),
+        T→true (wellFormed log) (tested F),
         le-leb (beginsTo log (length log)) n a,
         lt-ltb (missing (historyOf log)) (length log) b,
       )
   cases-are (none F a b) =
       rw (
         T→true (rightLength (length log)) (→right log (F .size)),
-        T→true (wellFormed log) (F .formed),
+        T→true (wellFormed log) (tested F),
         le-leb (beginsTo log (length log)) n a,
         le-ltb (missing (historyOf log)) (length log) b,
       )

@@ -12,7 +12,7 @@ use Rattle.history.proofs.Placement.{Laws}
 use Rattle.history.specs.Sweep.{isSource, adds, floor, floors, placeAt, place}
 use Rattle.history.proofs.Floors.{floor-suc}
 use Rattle.history.specs.Rows.{kindOf}
-use Rattle.judging.specs.Sweeping.{missingAfter}
+use Rattle.judging.specs.Rowwise.{missingAfter}
 
 pub missing-le : (x k q b m : ℕ) → missingAfter x k q b m ≤ m
 unfolding missingAfter

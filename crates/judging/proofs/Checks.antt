@@ -8,7 +8,7 @@ use lib.Dec.{T}
 use lib.ListN.{length, getD, set, replicate}
 use Rattle.history.specs.Rows.{processorOf, processorAt}
 use Rattle.history.specs.WellFormed.{headOk, fieldsOk, alternates, openAt, rowOk, all, wellFormed}
-use Rattle.judging.specs.Sweeping.{processors, openAfter, opensTo}
+use Rattle.judging.specs.Rowwise.{processors, openAfter, opensTo}
 use Rattle.judging.proofs.Steps.{opens-suc, opens-one, opens-at, proc-small, all-one, all-suc, formed-row, formed-all, row-fields, row-turn, row-good}
 
 -- the rows before k are right, where there are n readers and the array bs

@@ -15,9 +15,8 @@ use Rattle.history.proofs.Placement.{Laws}
 use Rattle.history.specs.Linearization.{Stands}
 use Rattle.history.specs.Rows.{kindAt, processorAt, beginsAt, begins, processorOf}
 use Rattle.history.specs.WellFormed.{openAt, wellFormed}
-use Rattle.history.proofs.Operations.{begin-is}
 use Rattle.history.proofs.WellFormed.{kind-is, laws}
-use Rattle.judging.specs.Sweeping.{rowPlace, sweepTo}
+use Rattle.judging.specs.Rowwise.{rowPlace, sweepTo}
 use Rattle.judging.specs.Keys.{inserted, keyOf, addKey, keysTo}
 use Rattle.judging.proofs.Steps.{keys-one, keys-suc}
 use Rattle.judging.proofs.Linked.{Linked, linked, R, kind-of-begin, kind-of-end, beg-is, q-write, q-read}
@@ -131,8 +130,8 @@ module _ (log : List ℕ) (w : T (wellFormed log)) (few : length log ≤ 4096) w
     unfolding addKey
     step l K =
         pick-T (λ z. Keyed log (k + 1) z) (begins (getD log k 0))
-        (λ t. step-begin (rw (begin-is log k) at t) l K)
-        (λ t. let u : T (not (beginsAt log k)) = rw (begin-is log k) at t in rw (key-is u) (step-end u l K))
+        (λ t. step-begin t l K)
+        (λ t. rw (key-is t) (step-end t l K))
 
   none-yet : (b : ℕ) → Ended log 1 b → ⊥
   none-yet b e = omega (arith, e .done, op-in b (e .op))

@@ -24,7 +24,7 @@ use Rattle.history.specs.Rows.{kindAt, processorAt, beginsAt, begins, kindOf, p
 use Rattle.history.specs.WellFormed.{openAt, wellFormed}
 use Rattle.history.proofs.Operations.{RowOk, begin-is, open-suc, open-le}
 use Rattle.history.proofs.WellFormed.{begin→, row, kind-is, laws}
-use Rattle.judging.specs.Sweeping.{processors, Sweep, openAfter, opensTo, rowPlace, placeRow, floorAfter, missingAfter, nextState, freshSweep, sweepTo}
+use Rattle.judging.specs.Rowwise.{processors, Sweep, openAfter, opensTo, rowPlace, placeRow, floorAfter, missingAfter, nextState, freshSweep, sweepTo}
 use Rattle.judging.proofs.Steps.{opens-suc, opens-one, opens-at, proc-in, some, sweep-one, sweep-suc}
 use Rattle.judging.proofs.Bounds.{missing-le, missing-hit, missing-new, place-le, floor-le}
 
@@ -58,7 +58,7 @@ module _ (log : List ℕ) (w : T (wellFormed log)) where
 
     pub opens-next : (v : ℕ) → pick (beginsAt log k) k 0 ≡ v → opensTo log (k + 1) ≡ set (opensTo log k) (processorAt log k) v
     unfolding openAfter processorAt
-    opens-next v e = opens-suc log k a ∙ rw (begin-is log k, e)
+    opens-next v e = opens-suc log k a ∙ rw e
 
     pub kind-of-begin : T (beginsAt log k) → (kindAt log k ≡ 1) ⊎ (kindAt log k ≡ 3)
     kind-of-begin = begin→ log k
@@ -67,8 +67,8 @@ module _ (log : List ℕ) (w : T (wellFormed log)) where
     kind-of-end t = elim (ℕ-discrete (kindAt log k) 2) [
       | yes e ↦ inl e
       | no n ↦ elim (ℕ-discrete (kindAt log k) 1) [
-        | yes e ↦ absurd (rw e at t)
-        | no n′ ↦ elim (ℕ-discrete (kindAt log k) 3) [ yes e ↦ absurd (rw e at t) | no n″ ↦ inr (omega (arith, R .low, R .high)) ]
+        | yes e ↦ absurd (rw (begin-is log k, e) at t)
+        | no n′ ↦ elim (ℕ-discrete (kindAt log k) 3) [ yes e ↦ absurd (rw (begin-is log k, e) at t) | no n″ ↦ inr (omega (arith, R .low, R .high)) ]
       ]
     ]
 
@@ -219,8 +219,7 @@ module _ (log : List ℕ) (w : T (wellFormed log)) where
       step-begin : T (begins (getD log k 0)) → Linked log (k + 1) (nextState s (getD log k 0) k (rowPlace log s k))
       unfolding nextState processorAt
       step-begin t =
-          let u : T (beginsAt log k) = rw (begin-is log k) at t in
-          let n = no-end u in
+          let n = no-end t in
           let m : max (s .top) (rowPlace log s k) ≡ s .top = omega (arith, q-none (n .0) (n .1)) in
           rw (
             open-begin t,
@@ -228,13 +227,13 @@ module _ (log : List ℕ) (w : T (wellFormed log)) where
             m,
             missing-begin (n .1) (rowPlace log s k) (getD (s .begins) (processorOf (getD log k 0)) 0) (s .missing),
           )
-          (begun s I u)
+          (begun s I t)
 
       step-end : T (not (begins (getD log k 0))) → Linked log (k + 1) (nextState s (getD log k 0) k (rowPlace log s k))
       unfolding nextState processorAt
       step-end t =
           rw (open-end t, floor-end t (getD (s .floors) (processorOf (getD log k 0)) 0), set-getD (s .floors) (processorOf (getD log k 0)) 0)
-          (ended (rw (begin-is log k) at t))
+          (ended t)
 
       step : Linked log (k + 1) (nextState s (getD log k 0) k (rowPlace log s k))
       step = pick-T {A = ℕ} (λ _. Linked log (k + 1) (nextState s (getD log k 0) k (rowPlace log s k))) (begins (getD log k 0)) {a = 0} {b = 0} step-begin step-end

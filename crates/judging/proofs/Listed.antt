@@ -20,11 +20,11 @@ use Rattle.history.proofs.Built.{key, key-bound, behind-has, only, has-read, ha
 use Rattle.history.proofs.Verdict.{found}
 use Rattle.history.specs.Rows.{kindAt, processorAt, begins}
 use Rattle.history.specs.WellFormed.{openAt, wellFormed}
-use Rattle.history.proofs.Operations.{RowOk, Opened, open→, →open}
+use Rattle.history.proofs.Operations.{RowOk, begin-is, Opened, open→, →open}
 use Rattle.history.proofs.WellFormed.{begin→, row, kind-is, laws}
 use Rattle.history.proofs.Ends.{fin-none, fin-open}
 use Rattle.history.proofs.Unique.{rising-same, rising-of}
-use Rattle.judging.specs.Sweeping.{sweepTo}
+use Rattle.judging.specs.Rowwise.{sweepTo}
 use Rattle.judging.specs.Keys.{inserted, addUnended, keysTo, keysOf, decode}
 use Rattle.judging.proofs.Steps.{opens-at, some}
 use Rattle.judging.proofs.Linked.{linked}
@@ -74,7 +74,7 @@ module _ (log : List ℕ) (w : T (wellFormed log)) (few : length log ≤ 4096) (
       sym (→open log 0 (length log) x (record {
         real = y .real;
         before = b;
-        begin = rw k tt;
+        begin = rw (begin-is log x, k) tt;
         own = z;
         none = λ j c d e. fin-none log x (y .real) a j c d (e ∙ sym z);
       }))

@@ -7,7 +7,7 @@ use lib.Dec.{T}
 use lib.ListN.{length, getD, set, replicate}
 use Rattle.history.specs.Rows.{processorOf}
 use Rattle.history.specs.WellFormed.{wellFormed}
-use Rattle.judging.specs.Sweeping.{processors, Sweep, openAfter, placeRow, rowPlace, floorAfter, missingAfter, freshSweep, sweepTo}
+use Rattle.judging.specs.Rowwise.{processors, Sweep, openAfter, placeRow, rowPlace, floorAfter, missingAfter, freshSweep, sweepTo}
 use Rattle.judging.specs.Answer.{beginsTo}
 use Rattle.judging.specs.Keys.{addKey, addUnended, keysTo, keysOf}
 use Rattle.judging.proofs.Steps.{some, proc-in, sweep-one, begins-next, floors-next, top-next, missing-next, place-is, keys-suc}

@@ -1,17 +1,16 @@
 -- The answer means what document 01 says.
 use Prim.Native.Nat.{ℕ, _%_, _≤_, _<_}
 use native.Mathlib.Omega.{arith}
-use native.Mathlib.Decide.{ℕ-discrete}
 use mathlib.Core.Path.{_≡_, refl, sym, ap, subst, _∙_}
 use mathlib.Core.Logic.{_↔_}
 use mathlib.Core.List.{List}
 use lib.Dec.{eqb}
-use lib.ListN.{length, getD, take, drop, length-take}
+use lib.ListN.{length, getD, take, drop}
 use lib.Seq.{drop-at}
-use borrow.Author.Tests.{eq-eqb, ne-eqb}
 use Rattle.words.specs.Choice.{pick}
-use Rattle.words.proofs.Laws.Choice.{T-left}
+use Rattle.words.proofs.Laws.Choice.{eq-ind, T-left}
 use Rattle.logbytes.specs.Bytes.{rowsOf}
+use Rattle.history.specs.Form.{LogFormed}
 use Rattle.history.specs.History.{historyOf, Read}
 use Rattle.history.specs.Linearization.{Orders}
 use Rattle.history.specs.Sweep.{isRead, fails, missing}
@@ -22,10 +21,10 @@ use Rattle.history.proofs.WellFormed.{laws}
 use Rattle.history.proofs.Verdict.{before-missing, none-with}
 use Rattle.history.proofs.Theorems.{at-most-one, has-earliest, ordered-if-swept, two-definitions, serial-shrinking}
 use Rattle.judging.specs.Answer.{Answer, answer, beginsTo, answerOf, laid, orderOf, numberOf, bytesNumber}
-use Rattle.judging.specs.Meaning.{Formed, Roomy, BothReports, No12, Yes, Means, Ordered, BytesMean, Fits}
+use Rattle.judging.specs.Meaning.{RightLength, Formed, Roomy, BothReports, No12, Yes, Means, Ordered, BytesSay, says-0, says-9, says-10, says-12, BytesMean}
 use Rattle.judging.specs.declared.Verdict.{Verdict}
 use Rattle.judging.specs.declared.Verdict.the-variants.{Accepted, WrongLength, Malformed, NoRoom, NoOrder}
-use Rattle.judging.proofs.Asked.{Asked, no9, no10, no11, no12, none, ask, cases-are, questionOf, asked-number}
+use Rattle.judging.proofs.Asked.{tested, untested, Asked, no9, no10, no11, no12, none, ask, cases-are, questionOf, asked-number}
 use Rattle.judging.proofs.Places.{laid-take}
 
 -- a missing read is an ended read
@@ -57,8 +56,8 @@ one-verdict v w e = sym (verdict-back v) ∙ ap verdictOf e ∙ verdict-back w
 -- "Two definitions, one verdict": where 0 is the number of the logs with an order, it is that of the logs that are atomic by either report.
 by-reports : (log : List ℕ) → Formed log → (k : ℕ) → (k ≡ 0) ↔ ((l : List ℕ) × Orders log l) → BothReports log k
 by-reports log F k i =
-    let d = two-definitions log (F .formed) in
-    let s = serial-shrinking log (F .formed) in
+    let d = two-definitions log (tested F) in
+    let s = serial-shrinking log (tested F) in
     record {
       ordered = i;
       cs-r8704 = (λ z. d .1 (i .0 z), λ A. i .1 (d .0 A));
@@ -69,7 +68,7 @@ by-reports log F k i =
 module _ (log o : List ℕ) where
   means-12 : Roomy log o → missing (historyOf log) < length log → orderOf log o ≡ o → No12 log o (orderOf log o) (missing (historyOf log))
   means-12 R a e =
-      let L = laws log (R .log-ok .formed) in
+      let L = laws log (tested (R .log-ok)) in
       record {
         asked = R;
         read = missing-read log a;
@@ -87,7 +86,7 @@ module _ (log o : List ℕ) where
 
   means-yes : Roomy log o → length log ≤ missing (historyOf log) → orderOf log o ≡ laid (listing log) o → Yes log o (orderOf log o) (length (listing log))
   means-yes R a e =
-      let w = R .log-ok .formed in
+      let w = tested (R .log-ok) in
       let O = before-missing (historyOf log) (laws log w) (length log) a in
       let E = has-earliest log w _ O in
       let front : take (length (listing log)) (orderOf log o) ≡ listing log = ap (take (length (listing log))) e ∙ laid-take (listing log) o in
@@ -106,7 +105,7 @@ module _ (log o : List ℕ) where
       rw (one-verdict v WrongLength (e ∙ cases-are log _ _ _ _ (no9 a))) (record { size = a; same = cases-are log _ _ _ _ (no9 a) })
   means-asked (no10 r w) v e =
       rw (one-verdict v Malformed (e ∙ cases-are log _ _ _ _ (no10 r w)))
-      (record { size = r; malformed = rw w tt; same = cases-are log _ _ _ _ (no10 r w) })
+      (record { size = r; malformed = untested w; same = cases-are log _ _ _ _ (no10 r w) })
   means-asked (no11 F a) v e =
       rw (one-verdict v NoRoom (e ∙ cases-are log _ _ _ _ (no11 F a))) (record { log-ok = F; room = a; same = cases-are log _ _ _ _ (no11 F a) })
   means-asked (no12 F a b) v e =
@@ -124,13 +123,6 @@ Says log o e v = (answer v ≡ answerOf log (length o)) × ((e ≡ orderOf log o
 pub says : (log o e : List ℕ) (v : Verdict) → answer v ≡ answerOf log (length o) → e ≡ orderOf log o → Says log o e v
 says log o e v a b = (a, (b, rw b (means-asked log o (ask log (length o)) v a)))
 
-pub fits : (log o e : List ℕ) (v : Verdict) → Means log o e v → Fits v e
-fits log o e (Accepted n) m = (omega (arith, m .count, length-take n e), m .count)
-fits log o e WrongLength m = tt
-fits log o e Malformed m = tt
-fits log o e NoRoom m = tt
-fits log o e (NoOrder r) m = tt
-
 pub number-is : (log : List ℕ) (n : ℕ) (a : Asked log n) → answerOf log n .number ≡ questionOf a
 unfolding answerOf
 number-is log n a = asked-number log n _ (λ _. refl) a
@@ -141,12 +133,12 @@ accepted-if-ordered log n c = go (ask log n)
   where
     go : Asked log n → (answerOf log n .number ≡ 0) ↔ Ordered log
     go (no9 a) = (λ z. absurd (omega (arith, number-is log n (no9 a))), λ O. absurd (a (O .log-ok .size)))
-    go (no10 r w) = (λ z. absurd (omega (arith, number-is log n (no10 r w))), λ O. absurd (rw w at (O .log-ok .formed)))
+    go (no10 r w) = (λ z. absurd (omega (arith, number-is log n (no10 r w))), λ O. absurd (untested w (O .log-ok .formed)))
     go (no11 F a) = absurd (omega arith)
     go (no12 F a b) =
-        (λ z. absurd (omega (arith, number-is log n (no12 F a b))), λ O. absurd (omega (arith, ordered-if-swept log (F .formed) .0 (O .order))))
+        (λ z. absurd (omega (arith, number-is log n (no12 F a b))), λ O. absurd (omega (arith, ordered-if-swept log (tested F) .0 (O .order))))
     go (none F a b) = (
-      λ _. record { log-ok = F; order = (_, before-missing (historyOf log) (laws log (F .formed)) (length log) b) },
+      λ _. record { log-ok = F; order = (_, before-missing (historyOf log) (laws log (tested F)) (length log) b) },
       λ _. number-is log n (none F a b),
     )
 
@@ -161,21 +153,31 @@ number-by-reports log F =
     let i = number-if-ordered log in
     by-reports log F (numberOf log) (λ z. i .0 z .order, λ t. i .1 (record { log-ok = F; order = t }))
 
+-- The number by the question that is answered no,
+say : (log : List ℕ) (P : ℕ → Type 0) → (¬ RightLength log → P 9) → (RightLength log → ¬ LogFormed log → P 10)
+    → (Formed log → ((l : List ℕ) → ¬ Orders log l) → P 12) → (Ordered log → P 0) → P (numberOf log)
+unfolding numberOf
+say log P p9 p10 p12 p0 = at (beginsTo log (length log)) (omega arith) (ask log _)
+  where
+    at : (n : ℕ) → beginsTo log (length log) ≤ n → Asked log n → P (answerOf log n .number)
+    at n h (no9 a) = rw (number-is log n (no9 a)) (p9 a)
+    at n h (no10 r w) = rw (number-is log n (no10 r w)) (p10 r (untested w))
+    at n h (no11 F a) = absurd (omega arith)
+    at n h (no12 F a b) = rw (number-is log n (no12 F a b)) (p12 F (λ l O. none-with (historyOf log) (laws log (tested F)) (length log) l b b O))
+    at n h (none F a b) =
+        rw (number-is log n (none F a b))
+        (p0 (record { log-ok = F; order = (_, before-missing (historyOf log) (laws log (tested F)) (length log) b) }))
+
 -- and of bytes.
 pub bytes-mean : (b : List ℕ) → BytesMean b (bytesNumber b)
 unfolding bytesNumber
-bytes-mean b = go (ℕ-discrete (length b % 8) 0)
-  where
-    go : Dec (length b % 8 ≡ 0) → BytesMean b (bytesNumber b)
-    go (yes e) =
-        let i = number-if-ordered (rowsOf b) in
-        rw (eq-eqb (length b % 8) 0 e)
-        (record {
-          is-zero = (λ z. record { whole = e; ordered = i .0 z }, λ O. i .1 (O .ordered));
-          reports = λ _ F. number-by-reports (rowsOf b) F;
-        })
-    go (no n) =
-        rw (ne-eqb (length b % 8) 0 n) (record { is-zero = (λ z. absurd (omega arith), λ O. absurd (n (O .whole))); reports = λ e F. absurd (n e) })
+bytes-mean b = eq-ind (BytesMean b) (length b % 8) 0 _ _
+    (λ e. record {
+      says = say (rowsOf b) (BytesSay b) (λ a. says-9 (λ B. a (B .size))) (λ r a. says-10 (record { whole = e; size = r }) a)
+          (λ F a. says-12 (record { whole = e; size = F .size }) (F .formed) a) (λ O. says-0 (record { whole = e; size = O .log-ok .size }) O);
+      reports = λ B F. number-by-reports (rowsOf b) (record { size = B .size; formed = F });
+    })
+    (λ n. record { says = says-9 (λ B. n (B .whole)); reports = λ B F. absurd (n (B .whole)) })
 
 pub bytes-says : (b : List ℕ) (r : ℕ) → r ≡ bytesNumber b → (r ≡ bytesNumber b) × BytesMean b r
 bytes-says b r e = (e, subst (λ (k : ℕ). BytesMean b k) (sym e) (bytes-mean b))

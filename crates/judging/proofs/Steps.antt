@@ -15,11 +15,11 @@ use Rattle.words.proofs.Laws.Choice.{pick-T, and-T, T-left, T-right, T→true, 
 use Rattle.judging.proofs.FoldLaws.{upTo-one, upTo-suc}
 use Rattle.history.specs.Rows.{processorAt, beginsAt, begins, kindBits, kindOf, processorOf}
 use Rattle.history.specs.WellFormed.{openAt, headOk, isReader, fieldsOk, alternates, rowOk, all, wellFormed}
-use Rattle.history.proofs.Operations.{fields→, begin-is}
+use Rattle.history.proofs.Operations.{fields→}
 use Rattle.history.proofs.WellFormed.{row-passes}
 use Rattle.words.specs.Row.{zeroBits}
 use Rattle.judging.specs.Fold.{upTo}
-use Rattle.judging.specs.Sweeping.{processors, Sweep, openAfter, opensTo, rowPlace, placeRow, floorAfter, missingAfter, nextState, freshSweep, sweepTo}
+use Rattle.judging.specs.Rowwise.{processors, Sweep, openAfter, opensTo, rowPlace, placeRow, floorAfter, missingAfter, nextState, freshSweep, sweepTo}
 use Rattle.judging.specs.Answer.{countAfter, beginsTo}
 use Rattle.judging.specs.Keys.{addKey, keysTo}
 
@@ -96,7 +96,7 @@ module _ (log : List ℕ) where
       (go (ℕ-discrete i (processorAt log (suc k))) (opens-at i (suc k) a (omega arith)))
     where
       open-is : openAfter (getD log (suc k) 0) (suc k) ≡ pick (beginsAt log (suc k)) (suc k) 0
-      open-is = rw (begin-is log (suc k))
+      open-is = refl
 
       p-is : processorOf (getD log (suc k) 0) ≡ processorAt log (suc k)
       p-is = refl

@@ -1,10 +1,11 @@
 -- The judge's answer: questions 9 to 12 in their order.
-use Prim.Native.Nat.{ℕ, _+_, _%_}
+use Prim.Native.Nat.{ℕ, _+_, _*_, _%_, _^_}
 use mathlib.Core.Bool.{Bool, _&&_}
 use mathlib.Core.List.{List, [], _∷_, _++_}
 use lib.Dec.{eqb, leb, ltb}
 use lib.ListN.{length, getD, drop}
 use Rattle.words.specs.Choice.{pick}
+use Rattle.words.specs.Bits.{low}
 use Rattle.logbytes.specs.Bytes.{rowsOf}
 use Rattle.history.specs.Rows.{begins}
 use Rattle.history.specs.WellFormed.{wellFormed}
@@ -38,6 +39,10 @@ answer WrongLength = refused 9
 answer Malformed = refused 10
 answer NoRoom = refused 11
 answer (NoOrder r) = noOrder r
+
+-- an answer as a word, for a host in C: the number above, the value below, of which the lower half fits; 0 where there is none
+abbrev pub answerWord : Answer → ℕ
+answerWord a = a .number * 2 ^ 32 + low 32 (getD (a .values) 0 0)
 
 -- "1 to 4,096 rows"
 abbrev pub rightLength : ℕ → Bool

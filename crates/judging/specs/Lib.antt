@@ -1,5 +1,5 @@
 pub mod Fold
 pub mod Answer
 pub mod Meaning
-pub mod Sweeping
+pub mod Rowwise
 pub mod Keys

@@ -1,13 +1,11 @@
 -- What the judge's verdict means, in the words of documents 01 and 02.
 use Prim.Native.Nat.{ℕ, _%_, _≤_, _<_}
 use mathlib.Core.Path.{_≡_}
-use mathlib.Core.Bool.{not}
 use mathlib.Core.Logic.{_↔_}
 use mathlib.Core.List.{List}
-use lib.Dec.{T}
 use lib.ListN.{length, take, drop}
 use Rattle.logbytes.specs.Bytes.{rowsOf}
-use Rattle.history.specs.WellFormed.{wellFormed}
+use Rattle.history.specs.Form.{LogFormed}
 use Rattle.history.specs.History.{historyOf, Read}
 use Rattle.history.specs.Linearization.{Linearization, Orders}
 use Rattle.history.specs.Earliest.{Earliest}
@@ -25,7 +23,7 @@ pub record RightLength (log : List ℕ) : Type 0 where
 -- and "Rows well formed (10)?"
 pub record Formed (log : List ℕ) : Type 0 where
   pub size : RightLength log
-  pub formed : T (wellFormed log)
+  pub formed : LogFormed log
 
 -- and "At least as many order places as begin rows (11)?", of the places o
 pub record Roomy (log o : List ℕ) : Type 0 where
@@ -41,12 +39,12 @@ pub record BothReports (log : List ℕ) (number : ℕ) : Type 0 where
 
 -- The refusals, where the places o have become e. "A no gives its number and alters nothing."
 pub record No9 (log o e : List ℕ) : Type 0 where
-  pub size : RightLength log → ⊥
+  pub size : ¬ RightLength log
   pub same : e ≡ o
 
 pub record No10 (log o e : List ℕ) : Type 0 where
   pub size : RightLength log
-  pub malformed : T (not (wellFormed log))
+  pub malformed : ¬ LogFormed log
   pub same : e ≡ o
 
 pub record No11 (log o e : List ℕ) : Type 0 where
@@ -88,25 +86,24 @@ Means log o e Malformed = No10 log o e
 Means log o e NoRoom = No11 log o e
 Means log o e (NoOrder r) = No12 log o e r
 
--- an order's operations are within the places e
-abbrev pub Fits : Verdict → List ℕ → Type 0
-Fits (Accepted n) e = (n ≤ length e) × (n ≡ length (take n e))
-Fits WrongLength e = Unit {0}
-Fits Malformed e = Unit {0}
-Fits NoRoom e = Unit {0}
-Fits (NoOrder r) e = Unit {0}
-
 -- rows that pass questions 9 and 10 and have an order
 pub record Ordered (log : List ℕ) : Type 0 where
   pub log-ok : Formed log
   pub order : (l : List ℕ) × Orders log l
 
--- the same of "the log as bytes, eight a row"
-pub record BytesOrdered (b : List ℕ) : Type 0 where
+-- "the judge also accepts the log as bytes, eight a row": bytes of whole rows, 1 to 4,096 of them. "a length not a multiple of 8 is 9"
+pub record BytesLength (b : List ℕ) : Type 0 where
   pub whole : length b % 8 ≡ 0
-  pub ordered : Ordered (rowsOf b)
+  pub size : RightLength (rowsOf b)
 
--- The byte judge's number: 0 exactly if so; and of bytes that pass questions 9 and 10 both reports say the same.
+-- "and gives 0 or the number": the byte judge's number, by the first question that its rows get a no to
+pub data BytesSay (b : List ℕ) : ℕ → Type 0 where
+  says-0 : BytesLength b → Ordered (rowsOf b) → BytesSay b 0
+  says-9 : ¬ BytesLength b → BytesSay b 9
+  says-10 : BytesLength b → ¬ LogFormed (rowsOf b) → BytesSay b 10
+  says-12 : BytesLength b → LogFormed (rowsOf b) → ((l : List ℕ) → ¬ Orders (rowsOf b) l) → BytesSay b 12
+
 pub record BytesMean (b : List ℕ) (number : ℕ) : Type 0 where
-  pub is-zero : (number ≡ 0) ↔ BytesOrdered b
-  pub reports : length b % 8 ≡ 0 → Formed (rowsOf b) → BothReports (rowsOf b) number
+  pub says : BytesSay b number
+  -- of bytes that pass questions 9 and 10 both reports say the same
+  pub reports : BytesLength b → LogFormed (rowsOf b) → BothReports (rowsOf b) number

@@ -10,6 +10,7 @@ use register::calls::retire;
 use register::calls::step;
 use register::set_up::set_up_of;
 ghost use mathlib.Core.Path.{_≡_};
+ghost use Rattle.common.specs.Answers.{reply};
 ghost use Rattle.common.specs.CallWords.{callIn};
 ghost use Rattle.common.specs.SetUp.{setUpOf};
 ghost use Rattle.common.specs.Register.{callOf};
@@ -133,7 +134,8 @@ pub fn run(
 ) -> Ran
     ensures { λ r. ⌜ (r .answer ≡ setUpOf ticketRules n value 0 (now (table .entry)) (now (log .entry)) .answer)
         × (madeCalls (r .calls) (now (table .exit)) (now (log .exit)) (now (answers .exit)) ≡ runWordsOf ticketRules n value 0 (now (words .entry)) (now (table .entry)) (now (log .entry)) (now (answers .entry)))
-        × (r .answer ≡ Answer.Accepted → WholeRun ticketRules first-book.book (first-whole.Whole n value (now (table .entry)) (now (log .entry))) n value 0 (now (table .entry)) (now (log .entry)) (now (words .entry)) (now (answers .entry)) (madeCalls (r .calls) (now (table .exit)) (now (log .exit)) (now (answers .exit)))) ⌝ }
+        × (r .answer ≡ Answer.Accepted → WholeRun ticketRules first-book.book (first-whole.Whole n value (now (table .entry)) (now (log .entry))) n value 0 (now (table .entry)) (now (log .entry)) (now (words .entry)) (now (answers .entry)) (madeCalls (r .calls) (now (table .exit)) (now (log .exit)) (now (answers .exit))))
+        × (reply (r .answer) ≡ reply (setUpOf ticketRules n value 0 (now (table .entry)) (now (log .entry)) .answer)) ⌝ }
 {
     run_of(false, n, value, 0, words, table, log, answers)
 }
@@ -150,7 +152,8 @@ pub fn run_counted(
 ) -> Ran
     ensures { λ r. ⌜ (r .answer ≡ setUpOf countedRules n value fresh (now (table .entry)) (now (log .entry)) .answer)
         × (madeCalls (r .calls) (now (table .exit)) (now (log .exit)) (now (answers .exit)) ≡ runWordsOf countedRules n value fresh (now (words .entry)) (now (table .entry)) (now (log .entry)) (now (answers .entry)))
-        × (r .answer ≡ Answer.Accepted → WholeRun countedRules counted-book.book (counted-whole.Whole n value fresh (now (table .entry)) (now (log .entry))) n value fresh (now (table .entry)) (now (log .entry)) (now (words .entry)) (now (answers .entry)) (madeCalls (r .calls) (now (table .exit)) (now (log .exit)) (now (answers .exit)))) ⌝ }
+        × (r .answer ≡ Answer.Accepted → WholeRun countedRules counted-book.book (counted-whole.Whole n value fresh (now (table .entry)) (now (log .entry))) n value fresh (now (table .entry)) (now (log .entry)) (now (words .entry)) (now (answers .entry)) (madeCalls (r .calls) (now (table .exit)) (now (log .exit)) (now (answers .exit))))
+        × (reply (r .answer) ≡ reply (setUpOf countedRules n value fresh (now (table .entry)) (now (log .entry)) .answer)) ⌝ }
 {
     run_of(true, n, value, fresh, words, table, log, answers)
 }

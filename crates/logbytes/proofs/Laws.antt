@@ -1,15 +1,17 @@
 -- Rows read from bytes.
-use Prim.Native.Nat.{ℕ, zero, suc, _+_, _-_, _*_, _/_, _^_, _≤_, _<_, min}
+use Prim.Native.Nat.{ℕ, zero, suc, _+_, _-_, _*_, _/_, _%_, _^_, _≤_, _<_, min}
 use mathlib.Core.Path.{_≡_, refl, sym, ap, _∙_}
 use mathlib.Core.List.{List, [], _∷_, _++_, append-assoc}
+use mathlib.Core.Logic.{_≢_}
 use native.Mathlib.Omega.{arith}
+use borrow.Author.Tests.{eq-eqb, ne-eqb, le-leb, lt-leb}
 use native.Mathlib.Numerals.{add-one}
 use lib.ListN.{length, drop, set, getD, length-append, length-drop}
 use native.Mathlib.Nat.{add-zero, add-assoc}
 use lib.Seq.{drop-cons, set-at, drop-drop, getD-drop}
 use Rattle.words.specs.Bits.{low, field}
 use Rattle.words.proofs.Laws.Bits.{split-field}
-use Rattle.logbytes.specs.Bytes.{wordAt, readRows, rowsOf, readInto, bytesOf}
+use Rattle.logbytes.specs.Bytes.{wordAt, readRows, rowsOf, readInto, rowsIn, bytesOf}
 
 pub read-length : (k : ℕ) (b : List ℕ) → length (readRows k b) ≡ k
 unfolding readRows
@@ -54,6 +56,29 @@ unfolding readInto rowsOf
 read-all b d h =
     let e : min (length b / 8) (length d) ≡ length b / 8 = omega arith in
     rw e
+
+-- the rows of bytes, by whether they are whole rows and not too many
+module _ (b : List ℕ) (most : ℕ) where
+  pub rows-odd : length b % 8 ≢ 0 → rowsIn b most ≡ []
+  unfolding rowsIn
+  rows-odd n = rw (ne-eqb (length b % 8) 0 n)
+
+  pub rows-many : length b % 8 ≡ 0 → most < length b / 8 → rowsIn b most ≡ []
+  unfolding rowsIn
+  rows-many e h = rw (eq-eqb (length b % 8) 0 e, lt-leb (length b / 8) most h)
+
+  pub rows-whole : length b % 8 ≡ 0 → length b / 8 ≤ most → rowsIn b most ≡ rowsOf b
+  unfolding rowsIn
+  rows-whole e h = rw (eq-eqb (length b % 8) 0 e, le-leb (length b / 8) most h)
+
+-- what is read where there are none, and where there are some
+pub reads-none : (b d : List ℕ) (r : ℕ) → rowsIn b (length d) ≡ [] → r ≡ 0 → (r ≡ length (rowsIn b (length d))) × (d ≡ rowsIn b (length d) ++ drop r d)
+reads-none b d r e z = rw (e, z) (refl, refl)
+
+pub reads-all : (b d x : List ℕ) (r : ℕ) → length b % 8 ≡ 0 → length b / 8 ≤ length d → x ≡ readInto b d → r ≡ length b / 8
+    → (r ≡ length (rowsIn b (length d))) × (x ≡ rowsIn b (length d) ++ drop r d)
+unfolding rowsOf
+reads-all b d x r e h a q = rw (rows-whole b (length d) e h, q) (sym (read-length (length b / 8) b), a ∙ read-all b d h)
 
 -- a word by its bytes and the bits above each
 joined : (w w8 w16 w24 w32 w40 w48 w56 a b c d e f g h : ℕ) → w ≡ w8 * 2 ^ 8 + h

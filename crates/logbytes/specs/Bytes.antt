@@ -1,7 +1,9 @@
 -- A log as bytes: "eight a row, most significant first".
-use Prim.Native.Nat.{ℕ, zero, suc, _+_, _*_, _/_, _^_, min}
+use Prim.Native.Nat.{ℕ, zero, suc, _+_, _*_, _/_, _%_, _^_, min}
 use mathlib.Core.List.{List, [], _∷_, _++_}
+use lib.Dec.{eqb, leb}
 use lib.ListN.{length, getD, drop}
+use Rattle.words.specs.Choice.{pick}
 use Rattle.words.specs.Bits.{low, field}
 
 -- the number in the four bytes, and the word in the eight, from place p on
@@ -23,6 +25,10 @@ rowsOf b = readRows (length b / 8) b
 -- rows filled from the front with as many whole rows as there are, and as there is room for; the rest as it was
 unfoldable pub readInto : List ℕ → List ℕ → List ℕ
 readInto b rows = let k = min (length b / 8) (length rows) in readRows k b ++ drop k rows
+
+-- the rows of bytes that are whole rows, and no more than so many; else none
+unfoldable pub rowsIn : List ℕ → ℕ → List ℕ
+rowsIn b most = pick (eqb (length b % 8) 0) (pick (leb (length b / 8) most) (rowsOf b) []) []
 
 -- the bytes of rows
 unfoldable pub bytesOf : List ℕ → List ℕ

@@ -1,8 +1,9 @@
 // A log as bytes.
+ghost use mathlib.Core.List.{_++_};
 ghost use mathlib.Core.Path.{_≡_};
 ghost use Prim.Native.Nat.{_+_, _^_, _<_, _≤_, min};
-ghost use lib.ListN.{length};
-ghost use Rattle.logbytes.specs.Bytes.{halfAt, wordAt, readInto};
+ghost use lib.ListN.{length, drop};
+ghost use Rattle.logbytes.specs.Bytes.{halfAt, wordAt, readInto, rowsIn};
 
 fn wide(x: u8) -> u64
     ensures { λ r. ⌜ (r ≡ x) × (r < 256) ⌝ }
@@ -38,7 +39,7 @@ fn word_at(bytes: &[u8], at: usize) -> u64
 }
 
 // Reads as many whole rows as there are, and as there is room for.
-pub fn read_rows(bytes: &[u8], rows: &mut [u64])
+fn read_rows(bytes: &[u8], rows: &mut [u64])
     ensures { λ r. ⌜ now (rows .exit) ≡ readInto (now (bytes .entry)) (now (rows .entry)) ⌝ }
 {
     let count = fewer(bytes.len() / 8, rows.len());
@@ -47,4 +48,20 @@ pub fn read_rows(bytes: &[u8], rows: &mut [u64])
         rows[i] = word_at(bytes, i * 8);
         i += 1;
     }
+}
+
+// Reads the rows of bytes that are whole rows, if there is room for all, and gives their number; else none.
+pub fn rows_in(bytes: &[u8], rows: &mut [u64]) -> usize
+    ensures { λ r. ⌜ (r ≡ length (rowsIn (now (bytes .entry)) (length (now (rows .entry)))))
+        × (now (rows .exit) ≡ rowsIn (now (bytes .entry)) (length (now (rows .entry))) ++ drop r (now (rows .entry))) ⌝ }
+{
+    let count = bytes.len() / 8;
+    if bytes.len() % 8 != 0 {
+        return 0;
+    }
+    if rows.len() < count {
+        return 0;
+    }
+    read_rows(bytes, rows);
+    count
 }

@@ -10,7 +10,7 @@ use Rattle.words.specs.Update.{upd}
 use Rattle.words.proofs.Laws.Update.{upd-elim, upd-same, upd-other}
 use Rattle.history.specs.Rows.{kindBits, kindOf, valueOf, kindAt, valueAt}
 use Rattle.history.specs.History.{eventAt}
-use Rattle.history.specs.Swept.{Source, Swept, starts, write-begins, write-ends, read-begins, read-ends}
+use Rattle.history.specs.Stepwise.{Source, Stepwise, starts, write-begins, write-ends, read-begins, read-ends}
 use Rattle.history.proofs.Bands.{kind-plain}
 use Rattle.history.proofs.Grow.{grown, grown-length, grown-val, grown-kindOf}
 use Rattle.numbered.proofs.Splits.{eq-or, lt-or}
@@ -63,7 +63,7 @@ module _ (n : ℕ) (val : ℕ → ℕ) where
     pub row : ℕ → ℕ
     pub fl : ℕ → ℕ
     pub wr : ℕ
-    pub swept : Swept log (row F) fl wr
+    pub swept : Stepwise log (row F) fl wr
     pub floors : (i f : ℕ) → i < n → floor-of (me i .ph) ≡ suc f → fl i ≡ row f
     pub rise : (p q : ℕ) → p ≤ q → q ≤ K → row p ≤ row q
     pub source : (p : ℕ) → p ≤ K → Source log (row p) (val p)

@@ -1,5 +1,6 @@
 -- Why every log has an order: the book is the numbered machine with its numbers dropped.
 pub mod Cells
+pub mod Barred
 pub mod Sim
 pub mod Writes
 pub mod Turns

@@ -1,3 +1,4 @@
+pub mod Result
 pub mod Table
 pub mod Tickets
 pub mod Excluded
@@ -6,6 +7,7 @@ pub mod Walk
 pub mod Range
 pub mod Effects
 pub mod Laws
+pub mod SetUp
 pub mod WriterRel
 pub mod Seen
 pub mod ReaderRel

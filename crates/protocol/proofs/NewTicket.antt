@@ -8,13 +8,13 @@ use native.Mathlib.Decide.{ℕ-discrete, decLt}
 use native.Mathlib.Omega.{arith}
 use lib.ListN.{length}
 use lib.Dec.{leb, eqb}
-use borrow.Author.Tests.{eq-eqb, eqb-true}
+use borrow.Author.Tests.{eq-eqb, ne-eqb, eqb-true, eqb-false}
 use Rattle.words.specs.declared.stamp.Stamp.{Stamp}
 use Rattle.words.specs.declared.cell.Cell.{Cell}
 use Rattle.words.specs.Choice.{pick}
-use Rattle.words.proofs.Laws.Choice.{pick-ind, le-ind, never}
+use Rattle.words.proofs.Laws.Choice.{pick-ind, le-ind, eq-ind, never}
 use Rattle.protocol.specs.NewTicket.{Smallest, Above, Walks, on, round}
-use Rattle.protocol.specs.Reference.{isIn, firstFree, newTicket, excludedTickets, ticketAfter}
+use Rattle.protocol.specs.Reference.{isIn, firstFree, newTicket, namedTickets, withoutNone, excludedTickets, ticketAfter}
 
 -- the test, and membership
 in→mem : (t : ℕ) (b : List ℕ) → isIn t b ≡ true → List·Memᴰ t b
@@ -162,10 +162,52 @@ module _ (b : List ℕ) where
 pub newTicket-new : (n cur : ℕ) (b : List ℕ) → ¬ List·Memᴰ (newTicket n cur b) b
 newTicket-new n cur b m = never (sym (mem→in _ b m) ∙ walks-unbarred n cur (walks b n cur))
 
-barred-length : (s : Stamp) (cells : List Cell) → length (excludedTickets s cells) ≡ 2 + 3 * length cells
+-- "None bars nothing": what is left when it is dropped.
+pub kept-ticket : (t : ℕ) (b : List ℕ) → t ≢ 63 → List·Memᴰ t b → List·Memᴰ t (withoutNone b)
+unfolding withoutNone
+kept-ticket t (x ∷ b) ne (List·Memᴰ·head e) = rw (ne-eqb x 63 (λ z. ne (e ∙ z))) (List·Memᴰ·head e)
+kept-ticket t (x ∷ b) ne (List·Memᴰ·tail m) =
+    pick-ind (λ l. List·Memᴰ t l) (eqb x 63) _ _ (λ _. kept-ticket t b ne m) (λ _. List·Memᴰ·tail (kept-ticket t b ne m))
+
+pub was-ticket : (t : ℕ) (b : List ℕ) → List·Memᴰ t (withoutNone b) → (t ≢ 63) × List·Memᴰ t b
+unfolding withoutNone
+was-ticket t (x ∷ b) m = at (eqb x 63) refl m (was-ticket t b)
+  where
+    at : (c : Bool) → eqb x 63 ≡ c → List·Memᴰ t (pick c (withoutNone b) (x ∷ withoutNone b))
+        → (List·Memᴰ t (withoutNone b) → (t ≢ 63) × List·Memᴰ t b) → (t ≢ 63) × List·Memᴰ t (x ∷ b)
+    at true e m later = let r = later m in (r .0, List·Memᴰ·tail (r .1))
+    at false e m later =
+        elim (List·Memᴰ·cases-cons m) [
+          | inl g ↦ (λ z. eqb-false x 63 e (sym g ∙ z), List·Memᴰ·head g)
+          | inr q ↦ let r = later q in (r .0, List·Memᴰ·tail (r .1))
+        ]
+
+pub in-without : (t : ℕ) (b : List ℕ) → t ≢ 63 → isIn t (withoutNone b) ≡ isIn t b
+unfolding withoutNone isIn
+in-without t [] ne = refl
+in-without t (x ∷ b) ne = eq-ind (λ l. isIn t l ≡ (eqb t x || isIn t b)) x 63 _ _
+    (λ e. rw (ne-eqb t x (λ z. ne (z ∙ e))) (in-without t b ne)) (λ _. rw (in-without t b ne))
+
+pub none-without : (b : List ℕ) → isIn 63 (withoutNone b) ≡ false
+unfolding withoutNone isIn
+none-without [] = refl
+none-without (x ∷ b) = eq-ind (λ l. isIn 63 l ≡ false) x 63 _ _ (λ _. none-without b) (λ ne. rw (ne-eqb 63 x (λ z. ne (sym z))) (none-without b))
+
+without-length : (b : List ℕ) → length (withoutNone b) ≤ length b
+unfolding withoutNone
+without-length [] = omega arith
+without-length (x ∷ b) =
+    pick-ind (λ l. length l ≤ suc (length b)) (eqb x 63) (withoutNone b) (x ∷ withoutNone b) (λ _. omega (arith, without-length b))
+    (λ _. omega (arith, without-length b))
+
+named-length : (s : Stamp) (cells : List Cell) → length (namedTickets s cells) ≡ 2 + 3 * length cells
+unfolding namedTickets
+named-length s [] = refl
+named-length s (x ∷ cells) = omega (arith, named-length s cells)
+
+barred-length : (s : Stamp) (cells : List Cell) → length (excludedTickets s cells) ≤ 2 + 3 * length cells
 unfolding excludedTickets
-barred-length s [] = refl
-barred-length s (x ∷ cells) = omega (arith, barred-length s cells)
+barred-length s cells = omega (arith, without-length (namedTickets s cells), named-length s cells)
 
 -- behind n cells it is one of the 3n+3 names
 pub after-low : (n : ℕ) (s : Stamp) (cells : List Cell) → length cells ≤ n → ticketAfter n s cells ≤ 3 * n + 2

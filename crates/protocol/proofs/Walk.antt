@@ -14,12 +14,13 @@ use borrow.Author.Tests.{ltb-false, eq-eqb, ne-eqb}
 use Rattle.words.specs.declared.cell.Cell.{Cell}
 use Rattle.words.specs.Choice.{pick}
 use Rattle.words.specs.Counting.{one}
+use Rattle.words.proofs.Laws.Choice.{lt-ind}
 use Rattle.words.specs.declared.stamp.Stamp.{Stamp}
 use Rattle.protocol.specs.Tickets.{bit, withTicket, smallestOut, withCell, through, walkOn}
 use Rattle.protocol.specs.NewTicket.{Above, Walks}
-use Rattle.protocol.specs.Reference.{isIn, excludedTickets, ticketAfter}
+use Rattle.protocol.specs.Reference.{isIn, namedTickets, excludedTickets, ticketAfter}
 use Rattle.protocol.proofs.Tickets.{bit-or, bit-same, bit-other, below-in, first-out, first-le-ones, through-in, through-out}
-use Rattle.protocol.proofs.NewTicket.{one-walk, seek, walks-low, walks, after-low}
+use Rattle.protocol.proofs.NewTicket.{one-walk, seek, walks-low, walks, after-low, in-without, none-without}
 use Rattle.protocol.proofs.Excluded.{mask, with-or}
 
 -- The set of the cells read.
@@ -55,19 +56,44 @@ one-or false false = refl
 max-assoc : (a b c : ℕ) → max (max a b) c ≡ max a (max b c)
 max-assoc a b c = omega arith
 
-pub bars-in : (st : Stamp) (t : ℕ) → t < 63 → (b : ℕ) (cs : List Cell) → bit (withTicket (withTicket (bars b cs) (st .cur)) (st .prev)) t ≡ max (bit b t) (one (isIn t (excludedTickets st cs)))
-unfolding bars excludedTickets isIn
-bars-in st t h b [] = rw (with-bit (withTicket b (st .cur)) (st .prev) t h, with-bit b (st .cur) t h, one-or (eqb t (st .cur)) (eqb t (st .prev) || false), one-or (eqb t (st .prev)) false) (omega arith)
-bars-in st t h b (c ∷ cs) =
+named-in : (st : Stamp) (t : ℕ) → t < 63 → (b : ℕ) (cs : List Cell) → bit (withTicket (withTicket (bars b cs) (st .cur)) (st .prev)) t ≡ max (bit b t) (one (isIn t (namedTickets st cs)))
+unfolding bars namedTickets isIn
+named-in st t h b [] = rw (with-bit (withTicket b (st .cur)) (st .prev) t h, with-bit b (st .cur) t h, one-or (eqb t (st .cur)) (eqb t (st .prev) || false), one-or (eqb t (st .prev)) false) (omega arith)
+named-in st t h b (c ∷ cs) =
     rw (
-      bars-in st t h (withCell b c) cs,
+      named-in st t h (withCell b c) cs,
       with-bit (withTicket (withTicket b (c .stamp .prev)) (c .announced .cur)) (c .announced .prev) t h,
       with-bit (withTicket b (c .stamp .prev)) (c .announced .cur) t h,
       with-bit b (c .stamp .prev) t h,
-      one-or (eqb t (c .stamp .prev)) (eqb t (c .announced .cur) || (eqb t (c .announced .prev) || isIn t (excludedTickets st cs))),
-      one-or (eqb t (c .announced .cur)) (eqb t (c .announced .prev) || isIn t (excludedTickets st cs)),
-      one-or (eqb t (c .announced .prev)) (isIn t (excludedTickets st cs)),
+      one-or (eqb t (c .stamp .prev)) (eqb t (c .announced .cur) || (eqb t (c .announced .prev) || isIn t (namedTickets st cs))),
+      one-or (eqb t (c .announced .cur)) (eqb t (c .announced .prev) || isIn t (namedTickets st cs)),
+      one-or (eqb t (c .announced .prev)) (isIn t (namedTickets st cs)),
     ) (simp max-assoc)
+
+-- The set is the list, ticket by ticket: none, 63, is in neither.
+none-mask : (u : ℕ) → bit (mask u) 63 ≡ 0
+unfolding mask
+none-mask u = lt-ind (λ x. bit x 63 ≡ 0) u 63 (2 ^ u) 0 (λ h. bit-other u 63 (omega arith)) (λ _. refl)
+
+none-with : (s u : ℕ) → bit (withTicket s u) 63 ≡ bit s 63
+none-with s u = rw (with-or s u, bit-or s (mask u) 63, none-mask u) (omega arith)
+
+none-in : (b : ℕ) (cs : List Cell) → bit (bars b cs) 63 ≡ bit b 63
+unfolding bars
+none-in b [] = refl
+none-in b (c ∷ cs) =
+    none-in (withCell b c) cs
+    ∙ none-with (withTicket (withTicket b (c .stamp .prev)) (c .announced .cur)) (c .announced .prev)
+    ∙ none-with (withTicket b (c .stamp .prev)) (c .announced .cur)
+    ∙ none-with b (c .stamp .prev)
+
+pub bars-in : (st : Stamp) (t : ℕ) → t < 64 → (cs : List Cell)
+    → bit (withTicket (withTicket (bars 0 cs) (st .cur)) (st .prev)) t ≡ one (isIn t (excludedTickets st cs))
+unfolding excludedTickets
+bars-in st t h cs = elim (ℕ-discrete t 63) [
+  | yes e ↦ rw (e, none-without (namedTickets st cs)) (none-with (withTicket (bars 0 cs) (st .cur)) (st .prev) ∙ none-with (bars 0 cs) (st .cur) ∙ none-in 0 cs)
+  | no ne ↦ rw (in-without t (namedTickets st cs) ne) (named-in st t (omega arith) 0 cs ∙ rw zero-div (omega arith))
+]
 
 one-false : (b : Bool) → one b ≡ 0 → b ≡ false
 one-false true e = absurd (omega arith)
@@ -119,7 +145,7 @@ module _ (n : ℕ) (st : Stamp) (cs : List Cell) (nh : n ≤ 16) (len : length c
   set = withTicket (withTicket (bars 0 cs) (st .cur)) (st .prev)
 
   digit : (t : ℕ) → t ≤ 3 * n + 2 → bit set t ≡ one (isIn t (excludedTickets st cs))
-  digit t h = bars-in st t (omega arith) 0 cs ∙ rw zero-div (omega arith)
+  digit t h = bars-in st t (omega arith) cs
 
   pub new-ticket : ones set ≤ 3 * n + 2 → walkOn (3 * n + 2) (st .cur) set ≡ ticketAfter n st cs
   new-ticket few =

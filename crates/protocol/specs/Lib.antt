@@ -7,5 +7,6 @@ pub mod Write
 pub mod Read
 pub mod Rules
 pub mod Reference
+pub mod Result
 pub mod Whole
 pub mod Effects

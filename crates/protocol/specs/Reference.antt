@@ -7,7 +7,7 @@ use lib.Dec.{ltb, leb, eqb}
 use Rattle.words.specs.declared.stamp.Stamp.{Stamp}
 use Rattle.words.specs.declared.cell.Cell.{Cell}
 use Rattle.words.specs.Choice.{pick}
-use Rattle.words.specs.Stamp.{none}
+use Rattle.words.specs.Stamp.{none, isNone}
 use Rattle.words.specs.Cell.{packCell}
 use Rattle.common.specs.Book as Book
 use Rattle.common.specs.Book.{idle, open-with, Telling}
@@ -36,19 +36,26 @@ newTicket n cur b =
     let t = firstFree b (suc cur) (3 * n + 2 - cur) in
     pick (leb t (3 * n + 2)) t (firstFree b 0 (length b))
 
--- "Barred are the prev, announced cur and announced prev of each, and the writer's own cur and prev. None bars nothing."
--- A none, 63, in the list bars nothing: it is no ticket.
+-- "Barred are the prev, announced cur and announced prev of each, and the writer's own cur and prev."
+unfoldable pub namedTickets : Stamp → List Cell → List ℕ
+namedTickets s [] = s .cur ∷ s .prev ∷ []
+namedTickets s (c ∷ cs) = c .stamp .prev ∷ c .announced .cur ∷ c .announced .prev ∷ namedTickets s cs
+
+-- "None bars nothing."
+unfoldable pub withoutNone : List ℕ → List ℕ
+withoutNone [] = []
+withoutNone (t ∷ b) = pick (eqb t 63) (withoutNone b) (t ∷ withoutNone b)
+
 unfoldable pub excludedTickets : Stamp → List Cell → List ℕ
-excludedTickets s [] = s .cur ∷ s .prev ∷ []
-excludedTickets s (c ∷ cs) = c .stamp .prev ∷ c .announced .cur ∷ c .announced .prev ∷ excludedTickets s cs
+excludedTickets s cells = withoutNone (namedTickets s cells)
 
 -- the ticket of a write behind the one with stamp s, by the cells it has read
 abbrev pub ticketAfter : ℕ → Stamp → List Cell → ℕ
 ticketAfter n s cells = newTicket n (s .cur) (excludedTickets s cells)
 
 -- "New stamp: (that ticket, old cur)."
-abbrev pub newStamp : ℕ → Stamp → List Cell → Stamp
-newStamp n s cells = record { cur = ticketAfter n s cells; prev = s .cur }
+abbrev pub stampAfter : ℕ → Stamp → List Cell → Stamp
+stampAfter n s cells = record { cur = ticketAfter n s cells; prev = s .cur }
 
 -- "Sub-steps 1..n read the readers' cells to the writer, readers 1..n."
 abbrev pub cellRead : ℕ → List ℕ → ℕ → Cell
@@ -58,11 +65,11 @@ cellRead n t m = view n t (m + 1) 0
 -- "A write ends at its sub-step 2n."
 unfoldable pub writeTurn : ℕ → List ℕ → Stamp → ℕ → ℕ → List Cell → Turn
 writeTurn n t s v m cells =
-    let t′ = store n t 0 (m - n + 1) (record { value = v; stamp = newStamp n s cells; announced = none }) in
+    let t′ = store n t 0 (m - n + 1) (record { value = v; stamp = stampAfter n s cells; announced = none }) in
     pick (ltb m n)
     (record { op = open-with v (m + 1) (cells ++ (cellRead n t m ∷ [])); stamp = s; table = t; value = 0 })
     (pick (ltb (m + 1) (2 * n)) (record { op = open-with v (m + 1) cells; stamp = s; table = t′; value = 0 })
-    (record { op = idle; stamp = newStamp n s cells; table = t′; value = 0 }))
+    (record { op = idle; stamp = stampAfter n s cells; table = t′; value = 0 }))
 
 -- a cell that shows nothing
 abbrev pub void : Cell
@@ -130,7 +137,7 @@ attemptTurn n p t s m cells l a =
 -- the cell that shows a result to another reader: "the result (for stamp none, reading 0)"
 abbrev pub shown : Result → Cell
 shown x = record {
-  value = pick (eqb (x .stamp .cur) 63 && eqb (x .stamp .prev) 63) 0 (x .value);
+  value = pick (isNone (x .stamp)) 0 (x .value);
   stamp = x .stamp;
   announced = none;
 }

@@ -13,16 +13,14 @@ use words::stamp::Stamp;
 use writer::state::fresh_writer;
 ghost use mathlib.Core.Path.{_≡_};
 ghost use mathlib.Core.List.{_++_};
-ghost use Prim.Native.Nat.{_≤_};
-ghost use lib.ListN.{length, drop};
-ghost use lib.Dec.{ltb};
-ghost use Rattle.words.specs.Choice.{pick};
+ghost use Prim.Native.Nat.{_+_, _-_, _*_, _≤_};
+ghost use lib.ListN.{length, take, drop, replicate};
 ghost use Rattle.common.specs.Answers.{reply};
 ghost use Rattle.common.specs.SetUp.{freshState, noState, setUpOf};
 ghost use Rattle.protocol.specs.Rules.{ticketRules};
 ghost use Rattle.counted.specs.Rules.{countedRules};
 ghost use Rattle.kinds.specs.Rules.{rulesOf};
-ghost use Rattle.register.specs.Contract.{outcome, ownWord, otherWord, freshWords};
+ghost use Rattle.register.specs.Contract.{outcome, ownWord, otherWord};
 
 // The word of a fresh cell from the writer.
 fn own_word(counted: bool, value: u32, fresh: u32) -> u64
@@ -52,23 +50,46 @@ fn other_word(counted: bool, fresh: u32) -> u64
     words::cell::pack(plain_cell(0, none))
 }
 
-fn fresh_word(i: usize, n: usize, own: u64, other: u64) -> u64
-    ensures { λ r. ⌜ r ≡ pick (ltb i n) own other ⌝ }
+// In how many parts of n cells a table of n readers falls: of the first register they are the processors' rows.
+fn parts_of(counted: bool, n: usize) -> usize
+    requires { ⌜ n ≤ 16 ⌝ }
+    ensures { λ r. ⌜ (n * r ≡ rulesOf counted .cells n) × (n ≤ r) × (r ≤ 17) ⌝ }
 {
-    if i < n {
-        return own;
+    if counted {
+        return n;
     }
-    other
+    n + 1
 }
 
-// The fresh cells, at the table's front: the writer's first.
-fn fill(table: &mut [u64], n: usize, cells: usize, own: u64, other: u64)
-    requires { ⌜ (n ≤ cells) × (cells ≤ length (now table)) ⌝ }
-    ensures { λ r. ⌜ now (table .exit) ≡ freshWords n cells own other ++ drop cells (now (table .entry)) ⌝ }
+// A word, to the first n places of a row.
+fn fill_row(row: &mut [u64], n: usize, word: u64)
+    requires { ⌜ n ≤ length (now row) ⌝ }
+    ensures { λ r. ⌜ now (row .exit) ≡ replicate n word ++ drop n (now (row .entry)) ⌝ }
 {
-    let mut i = 0;
-    while i < cells {
-        table[i] = fresh_word(i, n, own, other);
+    let mut k = 0;
+    while k < n {
+        row[k] = word;
+        k += 1;
+    }
+}
+
+// A word, to the n cells of the row that starts at a place: the row is a part of the table.
+fn fill_at(table: &mut [u64], at: usize, n: usize, word: u64)
+    requires { ⌜ at + n ≤ length (now table) ⌝ }
+    ensures { λ r. ⌜ now (table .exit) ≡ (take at (now (table .entry)) ++ replicate n word) ++ drop (at + n) (now (table .entry)) ⌝ }
+{
+    fill_row(&mut table[at..], n, word);
+}
+
+// The fresh cells, row by row: the writer's first. Row i starts at n times i.
+fn fill(table: &mut [u64], n: usize, rows: usize, own: u64, other: u64)
+    requires { ⌜ (n ≤ 16) × (1 ≤ rows) × (rows ≤ 17) × (n * rows ≤ length (now table)) ⌝ }
+    ensures { λ r. ⌜ now (table .exit) ≡ (replicate n own ++ replicate (n * rows - n) other) ++ drop (n * rows) (now (table .entry)) ⌝ }
+{
+    fill_at(table, 0, n, own);
+    let mut i = 1;
+    while i < rows {
+        fill_at(table, n * i, n, other);
         i += 1;
     }
 }
@@ -121,7 +142,7 @@ pub fn set_up_of(
             if (3 <= rows) & (rows <= 4096) {
                 let own = own_word(counted, value, fresh);
                 let other = other_word(counted, fresh);
-                fill(table, n as usize, cells, own, other);
+                fill(table, n as usize, parts_of(counted, n as usize), own, other);
                 add_row(log, 0, 5, n as u8, value);
                 let state = fresh_state(counted, n, fresh, rows);
                 return Called {

@@ -8,7 +8,7 @@ use mathlib.Core.Bool.{Bool, true, false, _&&_}
 use mathlib.Core.List.{List, [], _∷_}
 use lib.ListN.{length, getD, take, drop, set, length-set, List·getD-eq-default}
 use lib.Dec.{eqb, ltb}
-use lib.Seq.{sets, length-sets}
+use lib.Seq.{sets}
 use borrow.Author.Tests.{eq-eqb, ne-eqb, le-ltb, lt-ltb}
 use Rattle.words.specs.Choice.{pick}
 use Rattle.words.proofs.Laws.Choice.{pick-ind}
@@ -80,21 +80,21 @@ module _ (b : List ℕ) (p e : ℕ) (at : e ≡ placeOf 10 b p) where
       rw (le-ltb (placeOf 10 b p) (length b) h′)
 
 module _ (b : List ℕ) (p : ℕ) where
-  stop-calls : (k : ℕ) → callFrom b p ≡ 0 → callsFrom k b p ≡ []
+  pub stop-calls : (k : ℕ) → callFrom b p ≡ 0 → callsFrom k b p ≡ []
   unfolding callsFrom
   stop-calls zero z = refl
   stop-calls (suc k) z = rw (eq-eqb (callFrom b p) 0 z)
 
-  stop-end : (k : ℕ) → callFrom b p ≡ 0 → endFrom k b p ≡ p
+  pub stop-end : (k : ℕ) → callFrom b p ≡ 0 → endFrom k b p ≡ p
   unfolding endFrom
   stop-end zero z = refl
   stop-end (suc k) z = rw (eq-eqb (callFrom b p) 0 z)
 
-  next-calls : (k : ℕ) → callFrom b p ≢ 0 → callsFrom (suc k) b p ≡ callFrom b p ∷ callsFrom k b (placeOf 10 b p + 1)
+  pub next-calls : (k : ℕ) → callFrom b p ≢ 0 → callsFrom (suc k) b p ≡ callFrom b p ∷ callsFrom k b (placeOf 10 b p + 1)
   unfolding callsFrom
   next-calls k n = rw (ne-eqb (callFrom b p) 0 n)
 
-  next-end : (k : ℕ) → callFrom b p ≢ 0 → endFrom (suc k) b p ≡ endFrom k b (placeOf 10 b p + 1)
+  pub next-end : (k : ℕ) → callFrom b p ≢ 0 → endFrom (suc k) b p ≡ endFrom k b (placeOf 10 b p + 1)
   unfolding endFrom
   next-end k n = rw (ne-eqb (callFrom b p) 0 n)
 
@@ -160,14 +160,10 @@ module _ (b : List ℕ) (f : ℕ) (o : List ℕ) where
       let q : length o - k ≡ suc (length o - (k + 1)) = omega (arith, r .same) in
       rest-next (length o - (k + 1)) m e (subst (λ (j : ℕ). Rest w k p j) q r) c n a
 
--- No more calls than words, and as many words as before.
-calls-fit : (k : ℕ) (b : List ℕ) (p : ℕ) → length (callsFrom k b p) ≤ k
+-- No more calls than words.
+pub calls-fit : (k : ℕ) (b : List ℕ) (p : ℕ) → length (callsFrom k b p) ≤ k
 unfolding callsFrom
 calls-fit zero b p = omega arith
 calls-fit (suc k) b p =
     pick-ind (λ l. length l ≤ suc k) (eqb (callFrom b p) 0) [] _ (λ t. omega arith)
     (λ t. omega (arith, calls-fit k b (placeOf 10 b p + 1)))
-
-pub reads-fit : (b : List ℕ) (p : ℕ) (w x : List ℕ) (c e : ℕ) → Reads b p w x c e → (c ≤ length w) × (length x ≡ length w)
-reads-fit b p w x c e r =
-    (omega (arith, r .count-is, calls-fit (length w) b p), ap length (r .words-are) ∙ length-sets w 0 (callsFrom (length w) b p))

@@ -1,6 +1,6 @@
 -- What a session lends, and calls that it repeats.
 use Prim.Native.Nat.{ℕ, zero, suc}
-use mathlib.Core.List.{List, [], _++_}
+use mathlib.Core.List.{List, [], _∷_, _++_}
 use lib.ListN.{replicate}
 use Rattle.common.specs.Calls.{Call, step}
 
@@ -19,3 +19,8 @@ times k p = replicate k (step p)
 abbrev pub many : {A : Type 0} → ℕ → List A → List A
 many zero l = []
 many (suc k) l = l ++ many k l
+
+-- the numbers of k sub-steps
+abbrev pub subSteps : ℕ → List ℕ
+subSteps zero = []
+subSteps (suc k) = subSteps k ++ (suc k ∷ [])

@@ -1,8 +1,12 @@
 pub mod Lent
+pub mod Letters
 pub mod Session
 pub mod Walk
 pub mod Retired
 pub mod Opens
 pub mod Counted
+pub mod Rising
+pub mod Questions
+pub mod Bytes
 pub mod Table
 pub mod TwoChoices

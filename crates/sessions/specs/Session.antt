@@ -1,8 +1,8 @@
 -- A session: what is done, and what is to come of it.
-use Prim.Native.Nat.{ℕ, _+_}
+use Prim.Native.Nat.{ℕ, _+_, _-_}
 use mathlib.Core.Bool.{Bool, true, false, not, _&&_}
 use mathlib.Core.List.{List, [], _∷_}
-use lib.Dec.{eqb}
+use lib.Dec.{eqb, ltb}
 use lib.ListN.{length, take}
 use Rattle.words.specs.declared.cell.Cell.{Cell}
 use Rattle.words.specs.declared.row.Row.{Row}
@@ -13,17 +13,17 @@ use Rattle.words.specs.Cell.{packCell, unpackCell}
 use Rattle.words.specs.Row.{packRow, unpackRow}
 use Rattle.history.specs.History.{historyOf}
 use Rattle.history.specs.Chosen.{chosen, readsFrom, regular, uninverted}
-use Rattle.judging.specs.Answer.{answerOf, orderOf}
+use Rattle.judging.specs.Answer.{answerOf, orderOf, bytesNumber}
 use Rattle.common.specs.declared.Answer.{Answer}
 use Rattle.common.specs.declared.Writer.{Writer}
 use Rattle.common.specs.declared.State.{State}
-use Rattle.common.specs.Answers.{numberOf, subStepOf}
+use Rattle.common.specs.Answers.{Reply, reply}
 use Rattle.common.specs.Calls.{Call}
 use Rattle.common.specs.Head.{headWith}
 use Rattle.common.specs.Rules.{Rules}
 use Rattle.common.specs.SetUp.{setUpOf}
-use Rattle.common.specs.Register.{callOf, ranFrom}
-use Rattle.common.specs.Book.{Telling, Model, openCount, told as toldInBook, freshModel, kept}
+use Rattle.common.specs.Register.{callOf, runOf, ranFrom}
+use Rattle.common.specs.Book.{Telling, Model, openCount, told, freshModel, kept}
 use Rattle.protocol.specs.Tickets.{withTicket}
 use Rattle.protocol.specs.Write.{ticketOf}
 use Rattle.protocol.specs.Rules.{ticketRules}
@@ -51,6 +51,8 @@ pub data Session : Type 0 where
   row : Row → ℕ → Session
   -- a log that is judged, with the places for its order; the answer's number and values, and the places after the call
   judged : List ℕ → List ℕ → ℕ → List ℕ → List ℕ → Session
+  -- a log as bytes that is judged, with its number
+  judgedBytes : (bytes : List ℕ) (number : ℕ) → Session
   -- a log that is tried with a write that each of its reads may stand for, by begin rows (report CS-R8704): whether it is regular by this
   -- choice, and whether no two reads are inverted
   tried : (log : List ℕ) (choice : List (ℕ × ℕ)) (isRegular isUninverted : Bool) → Session
@@ -61,10 +63,14 @@ pub data Session : Type 0 where
   denied : (g : Register) (n v : ℕ) (table log : List ℕ) (number : ℕ) → Session
   -- an accepted one and the calls behind it; their answers as numbers, and the whole table and log after the last
   run : (g : Register) (n v : ℕ) (table log : List ℕ) (calls : List Call) (answers cells rows : List ℕ) → Session
+  -- calls behind an accepted set-up of n readers, on a table that is handed in; their answers, and the table and the used rows after the last
+  found : (n : ℕ) (table : List ℕ) (calls : List Call) (answers cells rows : List ℕ) → Session
   -- the number of open operations behind an accepted set-up, with a log of so many rows, and behind each of the calls
   opens : (g : Register) (n rows : ℕ) (calls : List Call) (numbers : List ℕ) → Session
   -- the state behind the calls, handed on with this number of open operations: the answer to one call more
   handed : (g : Register) (n rows : ℕ) (calls : List Call) (number : ℕ) (last : Call) (answer : ℕ) → Session
+  -- a state that is handed in, with a table of so many cells and a log of so many rows: the answer to a call
+  asked : (g : Register) (s : State) (cells rows : ℕ) (c : Call) (answer : ℕ) → Session
 
 abbrev sameCell : Cell → Cell → Bool
 sameCell a b = eqb (a .value) (b .value) && (same (a .stamp) (b .stamp) && same (a .announced) (b .announced))
@@ -98,13 +104,20 @@ beforeStore n own barred = record {
   count = 0;
 }
 
--- an answer as a number: 0 accepted, m for sub-step m, 100 + k for refusal k
-abbrev told : Answer → ℕ
-told a = pick (eqb (numberOf a) 0) (subStepOf a) (100 + numberOf a)
+-- an answer as the rows write it: 0 accepted, m for sub-step m, 100 + k for refusal k
+abbrev written : ℕ → Reply
+written k =
+    pick (eqb k 0) (record { number = 0; values = [] })
+    (pick (ltb k 100) (record { number = 0; values = k ∷ [] }) (record { number = k - 100; values = [] }))
 
-abbrev allTold : List Answer → List ℕ
-allTold [] = []
-allTold (a ∷ rest) = told a ∷ allTold rest
+abbrev answered : Answer → ℕ → Bool
+answered a k = eqb (reply a .number) (written k .number) && sameList (reply a .values) (written k .values)
+
+abbrev allAnswered : List Answer → List ℕ → Bool
+allAnswered [] [] = true
+allAnswered [] (k ∷ ks) = false
+allAnswered (a ∷ rest) [] = false
+allAnswered (a ∷ rest) (k ∷ ks) = answered a k && allAnswered rest ks
 
 abbrev rulesFor : Register → Rules
 rulesFor tickets = ticketRules
@@ -118,13 +131,13 @@ firstOf (counting fresh) = fresh
 unfoldable pub asDefined : Register → ℕ → ℕ → List ℕ → List ℕ → List Call → List ℕ → List ℕ → List ℕ → Bool
 asDefined g n v t l calls answers cells rows =
     let r = ranFrom (rulesFor g) n v (firstOf g) t l calls in
-    sameList (allTold (r .answers)) answers && (sameList (r .table) cells && sameList (r .log) rows)
+    allAnswered (r .answers) answers && (sameList (r .table) cells && sameList (r .log) rows)
 
 -- what a book gives: answers, its cells and the used rows, of which there are so many
 unfoldable pub inBook : {Stamp Cell : Type 0} → Telling Stamp Cell → Register → ℕ → ℕ → ℕ → ℕ → List Call → List ℕ → List ℕ → List ℕ → Bool
 inBook B g n v len used calls answers cells rows =
     let k = kept B n len (freshModel B n v (firstOf g)) calls in
-    sameList (allTold (k .answers)) answers
+    allAnswered (k .answers) answers
     && (sameList (k .model .table) (take (rulesFor g .cells n) cells) && sameList (k .model .rows) (take used rows))
 
 abbrev asModelled : Register → ℕ → ℕ → ℕ → ℕ → List Call → List ℕ → List ℕ → List ℕ → Bool
@@ -139,11 +152,15 @@ opensAfter R s t l (c ∷ rest) = let o = callOf R s t l c in s .head .opens ∷
 -- the same as the book counts them, with a log of so many rows
 abbrev countsAfter : {Stamp Cell : Type 0} → Telling Stamp Cell → ℕ → ℕ → Model Stamp Cell → List Call → List ℕ
 countsAfter B n rows b [] = openCount n b ∷ []
-countsAfter B n rows b (c ∷ rest) = openCount n b ∷ countsAfter B n rows (toldInBook B n rows b c .model) rest
+countsAfter B n rows b (c ∷ rest) = openCount n b ∷ countsAfter B n rows (told B n rows b c .model) rest
 
 abbrev countsFor : Register → ℕ → ℕ → List Call → List ℕ
 countsFor tickets n rows calls = countsAfter ticketBook n rows (freshModel ticketBook n 7 0) calls
 countsFor (counting fresh) n rows calls = countsAfter countedBook n rows (freshModel countedBook n 7 fresh) calls
+
+-- the book with another table
+abbrev withTable : {Stamp Cell : Type 0} → Model Stamp Cell → List ℕ → Model Stamp Cell
+withTable b t = record { table = t; rows = b .rows; stamp = b .stamp; op = b .op; retired = b .retired }
 
 -- the state with another number of open operations
 abbrev withOpens : State → ℕ → State
@@ -157,6 +174,7 @@ holds (row r w) = eqb (packRow r) w && sameRow (unpackRow w) r
 holds (judged log o n vs e) =
     let a = answerOf log (length o) in
     eqb (a .number) n && (sameList (a .values) vs && sameList (orderOf log o) e)
+holds (judgedBytes bytes number) = eqb (bytesNumber bytes) number
 holds (tried log choice isRegular isUninverted) =
     let h = historyOf log in
     let f = chosen choice in
@@ -165,11 +183,18 @@ holds (taken n own barred t) =
     eqb (ticketOf n (beforeStore n own barred)) t && eqb (newTicket n (own .cur) (own .cur ∷ own .prev ∷ barred)) t
 holds (denied g n v t l number) =
     let o = setUpOf (rulesFor g) n v (firstOf g) t l in
-    eqb (told (o .answer)) (100 + number) && (sameList (o .table) t && sameList (o .log) l)
+    answered (o .answer) (100 + number) && (sameList (o .table) t && sameList (o .log) l)
 holds (run g n v t l calls answers cells rows) =
     let used = ranFrom (rulesFor g) n v (firstOf g) t l calls .state .head .used in
-    eqb (told (setUpOf (rulesFor g) n v (firstOf g) t l .answer)) 0
+    answered (setUpOf (rulesFor g) n v (firstOf g) t l .answer) 0
     && (asDefined g n v t l calls answers cells rows && asModelled g n v (length l) used calls answers cells rows)
+holds (found n t calls answers cells rows) =
+    let o = setUpOf ticketRules n 7 0 t (paper 16) in
+    let r = runOf ticketRules (o .state) t (o .log) calls in
+    let k = kept ticketBook n 16 (withTable (freshModel ticketBook n 7 0) t) calls in
+    allAnswered (r .answers) answers
+    && (sameList (r .table) cells && sameList (take (r .state .head .used) (r .log)) rows)
+    && (allAnswered (k .answers) answers && (sameList (k .model .table) cells && sameList (k .model .rows) rows))
 holds (opens g n rows calls numbers) =
     let R = rulesFor g in
     let o = setUpOf R n 7 (firstOf g) (lent (R .cells n)) (paper rows) in
@@ -177,7 +202,8 @@ holds (opens g n rows calls numbers) =
 holds (handed g n rows calls number last answer) =
     let R = rulesFor g in
     let r = ranFrom R n 7 (firstOf g) (lent (R .cells n)) (paper rows) calls in
-    eqb (told (callOf R (withOpens (r .state) number) (r .table) (r .log) last .answer)) answer
+    answered (callOf R (withOpens (r .state) number) (r .table) (r .log) last .answer) answer
+holds (asked g s cells rows c answer) = answered (callOf (rulesFor g) s (lent cells) (paper rows) c .answer) answer
 
 abbrev pub all : List Session → Bool
 all [] = true

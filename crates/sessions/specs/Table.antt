@@ -2,44 +2,18 @@
 use Prim.Native.Nat.{ℕ}
 use mathlib.Core.Bool.{true, false}
 use mathlib.Core.List.{List, [], _∷_, _++_}
-use Rattle.words.specs.declared.stamp.Stamp.{Stamp}
-use Rattle.words.specs.declared.cell.Cell.{Cell}
-use Rattle.words.specs.declared.row.Row.{Row}
 use Rattle.words.specs.Stamp.{none}
-use Rattle.words.specs.Row.{packRow}
 use Rattle.common.specs.Calls.{write, read, step}
 use Rattle.sessions.specs.Session.{Session, stamp, tickets, cell, row, judged, tried, denied, run}
 use Rattle.sessions.specs.Lent.{lent, paper, times}
+use Rattle.sessions.specs.Letters.{shows, announces, event, two, W, w, R, r, places}
+use Rattle.sessions.specs.Rising.{risingSessions}
+use Rattle.sessions.specs.Questions.{questionSessions}
+use Rattle.sessions.specs.Bytes.{bytesSessions}
 use Rattle.sessions.specs.Walk.{walkSessions}
 use Rattle.sessions.specs.Retired.{retiredSessions}
 use Rattle.sessions.specs.Counted.{countedSessions}
 use Rattle.sessions.specs.Opens.{opensSessions}
-
--- a cell that announces nothing
-abbrev shows : ℕ → Stamp → Cell
-shows v s = record { value = v; stamp = s; announced = none }
-
-abbrev announces : Stamp → Stamp → Cell
-announces s a = record { value = 0; stamp = s; announced = a }
-
-abbrev event : ℕ → ℕ → ℕ → Row
-event k p v = record { kind = k; processor = p; value = v }
-
--- the rows of a log in the letters of the listing: row 0 of two readers with start reading 7, then the events
-abbrev two : List ℕ → List ℕ
-two log = packRow (event 5 2 7) ∷ log
-
-abbrev W : ℕ → ℕ
-W v = packRow (event 1 0 v)
-
-abbrev w : ℕ
-w = packRow (event 2 0 0)
-
-abbrev R : ℕ → ℕ
-R i = packRow (event 3 i 0)
-
-abbrev r : ℕ → ℕ → ℕ
-r i v = packRow (event 4 i v)
 
 -- Three logs for report CS-R8704.
 -- The first read stands for the write of 6, the second for that of 5.
@@ -53,10 +27,6 @@ secondOfTwo = two (W 5 ∷ w ∷ W 6 ∷ R 2 ∷ r 2 6 ∷ R 1 ∷ w ∷ W 5 ∷
 -- By one choice of writes it is regular and inverts two reads, by another it inverts none and is not regular.
 abbrev pub twoChoices : List ℕ
 twoChoices = two (W 5 ∷ w ∷ W 7 ∷ R 1 ∷ r 1 7 ∷ R 1 ∷ r 1 5 ∷ [])
-
--- places for an order, enough for every session
-abbrev places : List ℕ
-places = 77 ∷ 77 ∷ 77 ∷ 77 ∷ 77 ∷ []
 
 abbrev pub table : List Session
 table =
@@ -229,5 +199,7 @@ table =
     (105 ∷ 105 ∷ 105 ∷ 108 ∷ 0 ∷ 106 ∷ 1 ∷ 2 ∷ 108 ∷ [])
     (0x00000009080FFF00 ∷ 0x00000000FFFFFF00 ∷ 77 ∷ 77 ∷ [])
     (0x5010000000000007 ∷ 0x1000000000000009 ∷ 0x2000000000000000 ∷ 55 ∷ 55 ∷ [])
-    -- of document 02: tickets that walk (card 2), the counted register (card 3), and retired readers (card 1)
-    ∷ walkSessions ++ countedSessions ++ retiredSessions ++ opensSessions
+    -- more of document 01: rising readers, the order of the questions and their edges, logs as bytes
+    ∷ risingSessions ++ questionSessions ++ bytesSessions
+    -- of document 02: tickets that walk (card 2), the counted register (card 3), retired readers (card 1), and open operations (card 5)
+    ++ walkSessions ++ countedSessions ++ retiredSessions ++ opensSessions

@@ -4,7 +4,7 @@ use super::source::source_of;
 use super::sum::fold;
 use super::sum::fold_all;
 use super::sum::mix;
-use judge::verdict::judge;
+use judge::rows::judge;
 use judging::Verdict;
 use lists::Ran;
 use lists::run;

@@ -20,8 +20,8 @@ use super::text::print_answer;
 use super::text::print_cells;
 use super::text::print_rows;
 use super::text::print_with;
-use common::Answer;
 use common::State;
+use common::numbers::answer_word;
 use register::calls::Called;
 use register::set_up::set_up;
 use register::set_up::set_up_counted;
@@ -72,8 +72,8 @@ fn set_up_of(act: Act, table: &mut [u64], log: &mut [u64]) -> Called {
 }
 
 // Its answer, and how many words it wrote of buffers of marks.
-fn print_set_up(answer: Answer, table: &[u64], log: &[u64]) {
-    print_answer(answer);
+fn print_set_up(word: u64, table: &[u64], log: &[u64]) {
+    print_answer(word);
     print_with(b", cells written ", written(table));
     print_with(b", rows written ", written(log));
 }
@@ -83,7 +83,7 @@ fn prepare(t: Trial, act: Act, table: &mut [u64], log: &mut [u64]) -> Trial {
     let answer = o.answer;
     let s = o.state;
     if act.c == 1 {
-        print_set_up(answer, table, log);
+        print_set_up(answer_word(answer), table, log);
     }
     with_state(t, s)
 }

@@ -6,12 +6,13 @@ use super::same::same_state;
 use super::text::print;
 use super::text::print_answer;
 use super::text::print_with;
-use common::Answer;
+use super::text::refusal_in;
 use common::State;
-use entries::kept::begin;
-use entries::kept::retire;
-use entries::kept::step;
-use register::calls::Called;
+use entries::Worded;
+use entries::in_word;
+use entries::local::begin;
+use entries::local::retire;
+use entries::local::step;
 use register::calls::begin_read;
 
 // The processor that begins: a reader a read, and the writer a write.
@@ -24,7 +25,7 @@ fn beginner(kind: u64, number: u32) -> u32 {
 
 // Through the entries over a lent state. To them processor 0 is the writer, so a read by processor 0 is begun by value; for a read the
 // value is not looked at.
-fn make_call(word: u64, s: State, table: &mut [u64], log: &mut [u64]) -> Called {
+fn make_call(word: u64, s: State, table: &mut [u64], log: &mut [u64]) -> Worded {
     let kind = word / 4294967296;
     let number = (word % 4294967296) as u32;
     if kind == 3 {
@@ -34,7 +35,7 @@ fn make_call(word: u64, s: State, table: &mut [u64], log: &mut [u64]) -> Called 
         return retire(s, table, log, number);
     }
     if (kind == 2) & (number == 0) {
-        return begin_read(s, table, log, number);
+        return in_word(begin_read(s, table, log, number));
     }
     begin(s, table, log, beginner(kind, number), number)
 }
@@ -54,21 +55,17 @@ fn print_call(word: u64) {
 }
 
 // A refusal alters nothing: says whether it did.
-fn print_altered(answer: Answer, unaltered: bool) {
-    match answer {
-        Answer::Accepted => {}
-        Answer::Moved(k) => {}
-        Answer::Refused(r) => {
-            if unaltered {
-                print(b", unaltered");
-            } else {
-                print(b", altered");
-            }
+fn print_altered(answer: u64, unaltered: bool) {
+    if refusal_in(answer) != 0 {
+        if unaltered {
+            print(b", unaltered");
+        } else {
+            print(b", altered");
         }
     }
 }
 
-fn print_called(word: u64, answer: Answer, unaltered: bool) {
+fn print_called(word: u64, answer: u64, unaltered: bool) {
     print_call(word);
     print(b": ");
     print_answer(answer);
@@ -88,7 +85,7 @@ pub(crate) fn try_call(
     copy(table, &mut cells);
     copy(log, &mut rows);
     let o = make_call(word, s, table, log);
-    let answer = o.answer;
+    let answer = o.word;
     let state = o.state;
     if quiet {
         return state;

@@ -7,7 +7,7 @@ use super::text::print_number;
 use super::text::print_order;
 use super::text::print_with;
 use judge::bytes::judge_bytes;
-use judge::verdict::judge;
+use judge::rows::judge;
 use judging::Verdict;
 ghost use mathlib.Core.Path.{_≡_};
 ghost use lib.ListN.{length};

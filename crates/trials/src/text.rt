@@ -1,7 +1,5 @@
 // What is printed.
 use super::same::fewer;
-use common::Answer;
-use common::numbers::refusal_number;
 use libc::STDOUT_FILENO;
 
 pub(crate) fn print(words: &[u8]) {
@@ -33,12 +31,20 @@ pub(crate) fn print_cells(table: &[u64]) {
     print_rows(table);
 }
 
-// A call's answer.
-pub(crate) fn print_answer(answer: Answer) {
-    match answer {
-        Answer::Accepted => print(b"accepted"),
-        Answer::Moved(k) => print_with(b"sub-step ", k as u64),
-        Answer::Refused(r) => print_with(b"refused ", refusal_number(r)),
+// The refusal number in an answer's word, or 0.
+pub(crate) fn refusal_in(word: u64) -> u64 {
+    word / 4294967296
+}
+
+// An answer's word.
+pub(crate) fn print_answer(word: u64) {
+    let number = refusal_in(word);
+    if number != 0 {
+        print_with(b"refused ", number);
+    } else if word != 0 {
+        print_with(b"sub-step ", word);
+    } else {
+        print(b"accepted");
     }
 }
 

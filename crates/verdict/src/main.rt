@@ -1,53 +1,41 @@
 // Says of logs as bytes what the judge says of them, a line for each: `order` and the begin rows, `no order` and a row, or
-// `refused` and a number. The logs are the files that the arguments name, where `-` is standard input, or standard input alone.
-mod log; // the verdict on a log as bytes
-mod text; // the line of a verdict
+// `refused` and a number. The logs are its inputs: see the crate `inputs`.
+use libc::STDOUT_FILENO;
+use prints::verdict::verdict_print;
+ghost use mathlib.Core.Path.{_≡_};
+ghost use lib.ListN.{length};
 
-use libc::STDIN_FILENO;
-
-// Judges what can be read from fd. More bytes than the buffer has are more than any log.
-fn judge_file(fd: i32) {
-    let mut bytes = io::large_buffer();
-    let n = io::read_full(fd, &mut bytes);
-    text::print_verdict(&bytes[..n]);
+// Room for a log as bytes, and for one byte more.
+fn log_bytes() -> [u8; 32769]
+    ensures { λ r. ⌜ 32769 ≡ length r ⌝ }
+{
+    [0; 32769]
 }
 
-fn is_dash(path: &[u8]) -> bool {
-    if path.len() != 1 {
-        return false;
-    }
-    path[0] == b'-'
+// Room for every line.
+fn line_bytes() -> [u8; 131072]
+    ensures { λ r. ⌜ 131072 ≡ length r ⌝ }
+{
+    [0; 131072]
 }
 
-fn judge_argument(i: usize) {
-    let mut path = io::buffer();
-    let n = os::arg(i, &mut path);
-    if os::errno() != 0 {
-        os::fail(b"argument");
-        return;
+// The line of input k. Of an input that is longer than 4,096 rows one byte more is read.
+fn print_input(k: usize) {
+    let mut bytes = log_bytes();
+    let input = inputs::read(k, &mut bytes);
+    if input.found {
+        let count = input.count;
+        let mut out = line_bytes();
+        let n = verdict_print(&bytes[..count], &mut out);
+        io::write_all(STDOUT_FILENO, &out[..n]);
     }
-    if is_dash(&path[..n]) {
-        judge_file(STDIN_FILENO);
-        return;
-    }
-    let fd = os::open_read(&path[..n]);
-    if fd < 0 {
-        os::fail(&path[..n]);
-        return;
-    }
-    judge_file(fd);
-    libc::close(fd);
 }
 
 fn main() {
-    let n = os::arg_count();
-    if n < 2 {
-        judge_file(STDIN_FILENO);
-        return;
-    }
-    let mut i = 1;
-    while i < n {
-        judge_argument(i);
-        i += 1;
+    let end = inputs::end();
+    let mut k = 1;
+    while k < end {
+        print_input(k);
+        k += 1;
     }
 }

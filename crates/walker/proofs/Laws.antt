@@ -5,7 +5,6 @@ use mathlib.Core.List.{List}
 use borrow.Author.Tests.{lt-ltb, le-ltb}
 use lib.ListN.{length, getD}
 use Rattle.walker.specs.Walk.{stepAt}
-use Rattle.walker.specs.declared.Step.{Step}
 
 -- inside the log: the row, and the number behind it
 pub step-inside : (log : List ℕ) (k : ℕ) → k < length log → stepAt log k ≡ record { row = getD log k 0; next = k + 1 }

@@ -1,6 +1,6 @@
-// "The listing uses a walker made of the lent log and the next row." A walker can be made and advanced. Callers go through `next_row`,
-// whose parameters are plain.
+// "The listing uses a walker made of the lent log and the next row." A walker can be made and advanced; the listing holds one.
 ghost use mathlib.Core.Path.{_≡_};
+ghost use Rattle.lines.specs.Lines.{rowLine, rowsText, Puts};
 ghost use Rattle.walker.specs.Walk.{stepAt};
 
 // A walker over the rows of a lent log: the log, and the next row.
@@ -46,10 +46,24 @@ pub fn advance<'s, 'a>(w: &'s mut Walker<'a>) -> Step
     s
 }
 
-// The row at `next`: a walker is made before it, and advanced once.
-pub fn next_row(log: &[u64], next: usize) -> Step
-    ensures { λ r. ⌜ r ≡ stepAt (now (log .entry)) next ⌝ }
+// The line of row k.
+fn put_line(out: &mut [u8], at: usize, k: usize, row: u64) -> usize
+    ensures { λ r. ⌜ Puts (rowLine k row) at (now (out .entry)) (now (out .exit)) r ⌝ }
 {
-    let mut w = make(log, next);
-    advance(&mut w)
+    lines::put_row(out, at, k as u64, row)
+}
+
+// The lines of all rows behind row 0, put into lent bytes as far as there is room; gives the place behind them. One walker goes over the
+// rows.
+pub fn list_rows(log: &[u64], out: &mut [u8]) -> usize
+    ensures { λ r. ⌜ Puts (rowsText (now (log .entry))) 0 (now (out .entry)) (now (out .exit)) r ⌝ }
+{
+    let mut w = make(log, 1);
+    let mut at = 0;
+    while w.next < log.len() {
+        let k = w.next;
+        let s = advance(&mut w);
+        at = put_line(out, at, k, s.row);
+    }
+    at
 }

@@ -3,6 +3,7 @@ ghost use mathlib.Core.Path.{_≡_};
 ghost use Rattle.words.specs.Stamp.{none, same, stampOk};
 
 // A write's own ticket and that of the write before.
+#[repr(C)]
 pub struct Stamp {
     pub cur: u8,
     pub prev: u8,

@@ -6,7 +6,7 @@ use mathlib.Core.List.{List, [], _∷_, _++_}
 use native.Mathlib.Omega.{arith}
 use lib.ListN.{getD}
 use borrow.Author.Tests.{eqb-false}
-use Rattle.history.specs.Swept.{Swept}
+use Rattle.history.specs.Stepwise.{Stepwise}
 use Rattle.numbered.proofs.Machine.{Reader, St}
 use Rattle.numbered.proofs.Start.{fresh-st, fresh-me, start-inv}
 use Rattle.numbered.proofs.Log.{log-start}
@@ -98,7 +98,7 @@ module _ (n len v S : ℕ) (cs : List Call) (pos : 1 ≤ n) (few : n ≤ 16) (v-
       calls-follow book n len atBegin atStep val _ _ (follows n pos few len S val low) (freshModel book n v S) (fresh-st, fresh-me) cs lows fresh-sim
       (from-start 0 v v (written n len (freshModel book n v S) cs))
 
-  pub model-swept : (F : ℕ) × (fl : ℕ → ℕ) × (w : ℕ) × Swept (kept book n len (freshModel book n v S) cs .model .rows) F fl w
+  pub model-swept : (F : ℕ) × (fl : ℕ → ℕ) × (w : ℕ) × Stepwise (kept book n len (freshModel book n v S) cs .model .rows) F fl w
   model-swept = (_, _, _, model-sim .1 .log-ok .swept)
 
   -- "the largest stamp a read meets is the one it finds at the writer or one more"

@@ -3,12 +3,12 @@ use native.Mathlib.Omega.{arith}
 use borrow.Author.Needs.{needs}
 use Rattle.common.specs.Answers.{numberOf}
 use Rattle.lists.specs.Run.{MadeCalls}
-use Rattle.host.specs.Host.{resultOf}
+use Rattle.host.specs.Host.{resultWord}
 use Rattle.host.proofs.counted_run.Statement.{statement}
 use Rattle.host.proofs.counted_run.Tie as tie
 
 returns : tie.Need-returns
-unfolding resultOf
+unfolding resultWord
 returns c =
     let ran = c .before .before .before .before .before .before .before .run-counted .ensures in
     let same = ran .1 in

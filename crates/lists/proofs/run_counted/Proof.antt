@@ -3,9 +3,10 @@ use Rattle.counted.specs.Reference.{book}
 use Rattle.counted.proofs.Whole.{whole}
 use Rattle.lists.proofs.Laws.{whole-run}
 use native.Mathlib.Omega.{arith}
-use mathlib.Core.Path.{sym, _∙_}
+use mathlib.Core.Path.{sym, ap, _∙_}
 use denote.Ref.{now}
 use mathlib.Core.List.{List}
+use Rattle.common.specs.Answers.{reply}
 use Rattle.common.specs.Calls.{Call, LowCalls}
 use Rattle.counted.specs.Whole.{Whole}
 use borrow.Author.Needs.{needs}
@@ -21,6 +22,7 @@ returns c =
       λ h.
           let w : (cs : List Call) → LowCalls cs → Whole (a .n) (a .value) (a .fresh) (now (a .table)) (now (a .log)) cs = λ cs lows. whole (a .n) (a .value) (a .fresh) (now (a .table)) (now (a .log)) cs (omega (arith, c .before .before .before .before .before .before .before .before .before .before .before .before .before .before .fits .fresh .fits)) (sym (r .0) ∙ h) (omega (arith, c .before .before .before .before .before .before .before .before .before .before .before .before .before .before .fits .value .fits)) lows in
           whole-run countedRules (a .n) (a .value) (a .fresh) (now (a .table)) (now (a .log)) (now (a .words)) (now (a .answers)) book _ (λ cs lows. w cs lows .as-book) w _ (r .1) (sym (r .0) ∙ h),
+      ap reply (r .0),
     )
 
 pub run-counted-spec : {M : Type 1} → statement M

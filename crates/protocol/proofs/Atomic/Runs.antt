@@ -6,7 +6,7 @@ use native.Mathlib.Omega.{arith}
 use lib.ListN.{getD}
 use Rattle.words.specs.declared.cell.Cell.{Cell}
 use Rattle.words.proofs.Laws.Choice.{eq-ind}
-use Rattle.history.specs.Swept.{Swept}
+use Rattle.history.specs.Stepwise.{Stepwise}
 use Rattle.numbered.proofs.Machine.{Reader, St}
 use Rattle.numbered.proofs.Start.{fresh-st, fresh-me, start-inv}
 use Rattle.numbered.proofs.Log.{log-start}
@@ -102,7 +102,7 @@ module _ (n len v : ℕ) (cs : List Call) (pos : 1 ≤ n) (few : n ≤ 16) (v-lo
     log-ok = log-start n val₀ v v-low refl refl;
   }
 
-  pub model-swept : (F : ℕ) × (fl : ℕ → ℕ) × (w : ℕ) × Swept (kept book n len (freshModel book n v 0) cs .model .rows) F fl w
+  pub model-swept : (F : ℕ) × (fl : ℕ → ℕ) × (w : ℕ) × Stepwise (kept book n len (freshModel book n v 0) cs .model .rows) F fl w
   unfolding given all
   model-swept =
       let r =

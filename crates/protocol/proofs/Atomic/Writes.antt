@@ -1,8 +1,8 @@
 -- A write's sub-steps in the book are the numbered machine's.
-use Prim.Native.Nat.{ℕ, zero, suc, _+_, _-_, _*_, _^_, _≤_, _<_, pred}
+use Prim.Native.Nat.{ℕ, suc, _+_, _-_, _*_, _^_, _≤_, _<_}
 use mathlib.Core.Path.{_≡_, refl, _∙_, sym, ap}
 use mathlib.Core.Logic.{_≢_, _⊎_, inl, inr}
-use mathlib.Core.List.{List, [], _∷_, _++_, List·Memᴰ, List·Memᴰ·head, List·Memᴰ·tail}
+use mathlib.Core.List.{List, [], _∷_, _++_}
 use native.Mathlib.Numerals.{add-one}
 use native.Mathlib.Omega.{arith}
 use lib.Dec.{ltb}
@@ -14,51 +14,18 @@ use Rattle.words.specs.Index.{Pair}
 use Rattle.words.specs.Row.{rowOf}
 use Rattle.words.proofs.Laws.Choice.{lt-ind}
 use Rattle.words.proofs.Laws.Update.{upd-elim, upd-same, upd-first}
-use Rattle.numbered.proofs.Machine.{Reader, St, Bars, own, cur, prv}
+use Rattle.numbered.proofs.Machine.{Reader, St}
 use Rattle.numbered.proofs.Writer.{w-begin, w-begin-inv, w-read, w-read-inv, w-ticket, w-ticket-inv, w-store, w-store-inv, w-end, w-end-inv}
 use Rattle.numbered.proofs.Log.{log-w-begins, log-look, log-ticket, log-w-ends, floor-low}
 use Rattle.common.specs.Book.{idle, open-with, entered}
 use Rattle.common.proofs.Places.{view-same, view-other, size-store}
 use Rattle.protocol.specs.Table.{view, store, plain}
-use Rattle.protocol.specs.Reference.{Model, cellRead, Turn, excludedTickets, ticketAfter, newStamp, writeTurn}
+use Rattle.protocol.specs.Reference.{Model, cellRead, Turn, excludedTickets, ticketAfter, stampAfter, writeTurn}
 use Rattle.protocol.proofs.NewTicket.{newTicket-new}
 use Rattle.protocol.proofs.Table.{places}
-use Rattle.protocol.proofs.Atomic.Cells.{Low, stamp-of, back-of, cell-of, stamp-cur, stamp-prev, fits-cell}
+use Rattle.protocol.proofs.Atomic.Cells.{Low, stamp-of, back-of, cell-of, stamp-cur, fits-cell}
+use Rattle.protocol.proofs.Atomic.Barred.{bar-old, bar-new, bars-of, bars-some, own-tickets}
 use Rattle.protocol.proofs.Atomic.Sim.{Reading, Writing, SimWith, Sim}
-
--- The barred tickets grow with a cell.
-bar-old : (s : Stamp) (cs : List Cell) (x : Cell) (t : ℕ) → List·Memᴰ t (excludedTickets s cs) → List·Memᴰ t (excludedTickets s (cs ++ (x ∷ [])))
-unfolding excludedTickets
-bar-old s [] x t h = List·Memᴰ·tail (List·Memᴰ·tail (List·Memᴰ·tail h))
-bar-old s (y ∷ cs) x t (List·Memᴰ·head e) = List·Memᴰ·head e
-bar-old s (y ∷ cs) x t (List·Memᴰ·tail (List·Memᴰ·head e)) = List·Memᴰ·tail (List·Memᴰ·head e)
-bar-old s (y ∷ cs) x t (List·Memᴰ·tail (List·Memᴰ·tail (List·Memᴰ·head e))) = List·Memᴰ·tail (List·Memᴰ·tail (List·Memᴰ·head e))
-bar-old s (y ∷ cs) x t (List·Memᴰ·tail (List·Memᴰ·tail (List·Memᴰ·tail h))) =
-    List·Memᴰ·tail (List·Memᴰ·tail (List·Memᴰ·tail (bar-old s cs x t h)))
-
-abbrev Of : Cell → ℕ → Type 0
-Of x t = (t ≡ x .stamp .prev) ⊎ ((t ≡ x .announced .cur) ⊎ (t ≡ x .announced .prev))
-
-bar-new : (s : Stamp) (cs : List Cell) (x : Cell) (t : ℕ) → Of x t → List·Memᴰ t (excludedTickets s (cs ++ (x ∷ [])))
-unfolding excludedTickets
-bar-new s [] x t (inl e) = List·Memᴰ·head e
-bar-new s [] x t (inr (inl e)) = List·Memᴰ·tail (List·Memᴰ·head e)
-bar-new s [] x t (inr (inr e)) = List·Memᴰ·tail (List·Memᴰ·tail (List·Memᴰ·head e))
-bar-new s (y ∷ cs) x t o = List·Memᴰ·tail (List·Memᴰ·tail (List·Memᴰ·tail (bar-new s cs x t o)))
-
--- A reader's cell bars what its numbers do.
-bars-of : (n : ℕ) (c : ℕ → ℕ) (o a t : ℕ) → Bars n c o a t → Of (back-of c o a) t
-bars-of n c (suc o) a t (own _ e) = inl e
-bars-of n c zero a t (own g e) = absurd (omega arith)
-bars-of n c o (suc a) t (cur _ e) = inr (inl e)
-bars-of n c o zero t (cur g e) = absurd (omega arith)
-bars-of n c o (suc a) t (prv _ e) = inr (inr e)
-bars-of n c o zero t (prv g e) = absurd (omega arith)
-
--- The writer's own cur and prev are barred from the begin on.
-own-tickets : (c : ℕ → ℕ) (d : ℕ) → 1 ≤ d → excludedTickets (stamp-of c d) [] ≡ c d ∷ c (pred d) ∷ []
-unfolding excludedTickets
-own-tickets c d h i = stamp-cur c d h i ∷ stamp-prev c d h i ∷ []
 
 module _ (n : ℕ) (pos : 1 ≤ n) (c val : ℕ → ℕ) (low : Low c val) where
   module _ (b : Model) (s : St) (me : ℕ → Reader) where
@@ -87,7 +54,7 @@ module _ (n : ℕ) (pos : 1 ≤ n) (c val : ℕ → ℕ) (low : Low c val) where
           writer = rw (upd-same (b .op) 0) (inl (record {
             at = omega arith;
             wk-is = refl;
-            B-is = rw (q .0) (sym (own-tickets c (s .D) (z .inv .D-pos)));
+            B-is = rw (q .0) (sym (own-tickets c val low (s .D) (z .inv .D-pos)));
           }));
           log-ok = rw (upd-same (b .op) 0) (log-w-begins n val _ _ _ _ _ me _ (z .log-ok) (q .0) v vl);
         }
@@ -95,7 +62,7 @@ module _ (n : ℕ) (pos : 1 ≤ n) (c val : ℕ → ℕ) (low : Low c val) where
   -- What its sub-steps leave.
   module _ (b : Model) (v m : ℕ) (cells : List Cell) where
     abbrev new : Stamp
-    new = newStamp n (b .stamp 0) cells
+    new = stampAfter n (b .stamp 0) cells
 
     abbrev stored : List ℕ
     stored = store n (b .table) 0 (m - n + 1) (plain v new)
@@ -127,7 +94,7 @@ module _ (n : ℕ) (pos : 1 ≤ n) (c val : ℕ → ℕ) (low : Low c val) where
         go (inl r) = record {
           inv = w-read-inv n c s me m _ (z .inv) (r .wk-is)
               (λ t g. bar-old (stamp-of c (s .D)) cells _ t (rw (r .B-is) at g))
-              (λ t g. bar-new (stamp-of c (s .D)) cells _ t (rw cell-is (bars-of n c _ _ t g)));
+              (λ t g. bar-new (stamp-of c (s .D)) cells _ t (bars-some n c val low _ _ t g) (rw cell-is (bars-of n c _ _ t g)));
           size = z .size;
           to-reader = z .to-reader;
           to-writer = z .to-writer;

@@ -4,10 +4,10 @@ use Rattle.verdict.proofs.main.Statement.{statement}
 use Rattle.verdict.proofs.main.Tie as tie
 
 abbrev Inv-loop : tie.InvT-loop
-Inv-loop n i₀ i = Unit {0}
+Inv-loop end k₀ k = Unit {0}
 
 abbrev μ-loop : tie.MeasureT-loop
-μ-loop n i₀ i = n - i
+μ-loop end k₀ k = end - k
 
 pub main-spec : {M : Type 1} → statement M
 main-spec =
@@ -16,8 +16,6 @@ main-spec =
     Inv-loop
     μ-loop
     (λ c κs. search needs)
-    (λ c κs. search needs)
-    (λ c. search needs)
     (λ c. search needs)
     (λ c κs. search needs)
     (λ c. search needs)

@@ -46,10 +46,6 @@ pub lt-two : {A B : Type 0} (P : A → B → Type 0) (m n : ℕ) (a b : A) (c d 
     → P (pick (ltb m n) a b) (pick (ltb m n) c d)
 lt-two P m n a b c d f g = pick-two P (ltb m n) a b c d (λ e. f (ltb-true m n e)) (λ e. g (ltb-false m n e))
 
-pub le-two : {A B : Type 0} (P : A → B → Type 0) (m n : ℕ) (a b : A) (c d : B) → (m ≤ n → P a c) → (n < m → P b d)
-    → P (pick (leb m n) a b) (pick (leb m n) c d)
-le-two P m n a b c d f g = pick-two P (leb m n) a b c d (λ e. f (leb-true m n e)) (λ e. g (leb-false m n e))
-
 pub eq-two : {A B : Type 0} (P : A → B → Type 0) (m n : ℕ) (a b : A) (c d : B) → (m ≡ n → P a c) → (m ≢ n → P b d)
     → P (pick (eqb m n) a b) (pick (eqb m n) c d)
 eq-two P m n a b c d f g = pick-two P (eqb m n) a b c d (λ e. f (eqb-true m n e)) (λ e. g (eqb-false m n e))

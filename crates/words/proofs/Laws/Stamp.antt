@@ -1,6 +1,8 @@
 -- The tests of stamps say what they seem to.
-use mathlib.Core.Path.{_≡_, refl}
-use mathlib.Core.Bool.{true, and-eq-true-iff}
+use Prim.Native.Nat.{ℕ}
+use mathlib.Core.Path.{_≡_, refl, ap}
+use mathlib.Core.Logic.{_≢_}
+use mathlib.Core.Bool.{Bool, true, false, and-eq-true-iff}
 use lib.Dec.{eqb}
 use borrow.Author.Tests.{eqb-true, eq-eqb}
 use Rattle.words.specs.declared.stamp.Stamp.{Stamp}
@@ -17,3 +19,17 @@ equal-same a b e = rw e (and-eq-true-iff (eqb (b .cur) (b .cur)) (eqb (b .prev) 
 -- "stamp none is (63,63) only"
 pub none-only : (s : Stamp) → isNone s ≡ true → s ≡ none
 none-only s = same-equal s none
+
+pub some-stamp : (s : Stamp) → s ≢ none → isNone s ≡ false
+some-stamp s ne = at (isNone s) refl
+  where
+    at : (b : Bool) → isNone s ≡ b → b ≡ false
+    at true e = absurd (ne (none-only s e))
+    at false e = refl
+
+-- (63, x) is a stamp, and so is (x, 63), unless x is 63 too.
+pub cur-63 : (x : ℕ) → x ≢ 63 → isNone (record { cur = 63; prev = x }) ≡ false
+cur-63 x ne = some-stamp (record { cur = 63; prev = x }) (λ e. ne (ap (λ (s : Stamp). s .prev) e))
+
+pub prev-63 : (x : ℕ) → x ≢ 63 → isNone (record { cur = x; prev = 63 }) ≡ false
+prev-63 x ne = some-stamp (record { cur = x; prev = 63 }) (λ e. ne (ap (λ (s : Stamp). s .cur) e))

@@ -1,6 +1,6 @@
 use borrow.Author.Needs.{needs}
 use mathlib.Core.Path.{sym, _∙_}
-use Rattle.judging.specs.Sweeping.{openAfter}
+use Rattle.judging.specs.Rowwise.{openAfter}
 use Rattle.judge.specs.Frame.{KeepsLittle}
 use Rattle.judge.proofs.row.open_after.Code.{function}
 use Rattle.judge.proofs.row.open_after.Statement.{statement}

@@ -6,7 +6,7 @@ use lib.Dec.{T}
 use lib.ListN.{length}
 use denote.Ref.{now}
 use Rattle.history.specs.WellFormed.{wellFormed}
-use Rattle.judging.specs.Sweeping.{Sweep, freshSweep, sweepTo}
+use Rattle.judging.specs.Rowwise.{Sweep, freshSweep, sweepTo}
 use Rattle.judging.proofs.Steps.{sweep-one}
 use Rattle.judging.proofs.Linked.{missing-is}
 use Rattle.judging.proofs.Loops.{Sweeps, sweeps-start, processor-in, sweeps-next, missing-step}

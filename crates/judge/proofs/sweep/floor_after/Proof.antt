@@ -1,6 +1,6 @@
 use borrow.Author.Needs.{needs}
 use mathlib.Core.Path.{sym, _∙_}
-use Rattle.judging.specs.Sweeping.{floorAfter}
+use Rattle.judging.specs.Rowwise.{floorAfter}
 use Rattle.judge.specs.Frame.{KeepsLittle}
 use Rattle.judge.proofs.sweep.floor_after.Code.{function}
 use Rattle.judge.proofs.sweep.floor_after.Statement.{statement}

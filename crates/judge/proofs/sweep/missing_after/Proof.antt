@@ -1,7 +1,7 @@
 use native.Mathlib.Omega.{arith}
 use borrow.Author.Needs.{needs}
 use borrow.Author.Tests.{le-leb, lt-leb, eq-eqb, ne-eqb}
-use Rattle.judging.specs.Sweeping.{missingAfter}
+use Rattle.judging.specs.Rowwise.{missingAfter}
 use Rattle.judge.specs.Frame.{KeepsLittle}
 use Rattle.judge.proofs.sweep.missing_after.Code.{function}
 use Rattle.judge.proofs.sweep.missing_after.Statement.{statement}

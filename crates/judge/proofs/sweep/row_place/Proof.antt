@@ -1,6 +1,6 @@
 use borrow.Author.Needs.{needs}
 use borrow.Author.Tests.{ne-eqb}
-use Rattle.judging.specs.Sweeping.{placeRow}
+use Rattle.judging.specs.Rowwise.{placeRow}
 use Rattle.judge.specs.Frame.{KeepsLittle}
 use Rattle.judge.proofs.sweep.row_place.Code.{function}
 use Rattle.judge.proofs.sweep.row_place.Statement.{statement}

@@ -1,4 +1,4 @@
-use Rattle.kinds.proofs.Laws.{cells-low, kind-is}
+use Rattle.kinds.proofs.Laws.{kind-is}
 use Rattle.register.proofs.FreshLaws.{fresh-words}
 use Rattle.register.proofs.CallLaws.{gives, no-readers, no-cells, no-rows, all-set}
 use Rattle.kinds.specs.Rules.{rulesOf}
@@ -6,6 +6,7 @@ use Rattle.common.specs.SetUp.{noState}
 use Rattle.words.proofs.Laws.Choice.{left, right}
 use borrow.Author.Tests.{leb-true}
 use lib.Dec.{leb}
+use Prim.Native.Nat.{_≤_}
 use lib.ListN.{length}
 use denote.Ref.{now}
 use mathlib.Core.Path.{_∙_, ap, sym}
@@ -14,29 +15,41 @@ use borrow.Author.Needs.{needs}
 use Rattle.register.proofs.set_up.set_up_of.Statement.{statement}
 use Rattle.register.proofs.set_up.set_up_of.Tie as tie
 
+parts-of-requires : tie.Need-parts-of-requires
+parts-of-requires c κs =
+    let n = c .before .before .before .before .before .before .before .before .before .args .n in
+    leb-true n 16 (right (leb 1 n) _ (c .before .before .before .before .before .before .if1 .taken))
+
 fill-requires : tie.Need-fill-requires
 fill-requires c κs =
-    let a = c .before .before .before .before .before .before .before .before .before .args in
-    let h = leb-true 1 (a .n) (left (leb 1 (a .n)) _ (c .before .before .before .before .before .before .if1 .taken)) in
-    (omega (arith, cells-low (a .counted) (a .n) h, c .before .before .before .before .before .cells-of .ensures), c .before .before .before .before .if2 .taken)
+    let n = c .before .before .before .before .before .before .before .before .before .before .args .n in
+    let h = leb-true 1 n (left (leb 1 n) _ (c .before .before .before .before .before .before .before .if1 .taken)) in
+    let parts = c .parts-of .ensures in
+    let room : c .before .before .before .before .before .before .cells-of .result ≤ length (now (c .before .before .before .before .before .before .before .before .before .before .args .table)) = c .before .before .before .before .before .if2 .taken in (
+      leb-true n 16 (right (leb 1 n) _ (c .before .before .before .before .before .before .before .if1 .taken)),
+      omega (arith, parts .1),
+      parts .2,
+      omega (arith, parts .0, c .before .before .before .before .before .before .cells-of .ensures, room),
+    )
 
 cast-add-row : tie.Need-cast-add-row
 cast-add-row c =
-    let a = c .before .before .before .before .before .before .before .before .before .before .before .before .before .args in
-    omega (arith, leb-true (a .n) 16 (right (leb 1 (a .n)) _ (c .before .before .before .before .before .before .before .before .before .before .if1 .taken)))
+    let a = c .before .before .before .before .before .before .before .before .before .before .before .before .before .before .args in
+    omega (arith, leb-true (a .n) 16 (right (leb 1 (a .n)) _ (c .before .before .before .before .before .before .before .before .before .before .before .if1 .taken)))
 
 add-row-requires : tie.Need-add-row-requires
 add-row-requires c κs =
-    let l = length (now (c .before .before .before .before .before .before .before .before .before .before .before .before .before .args .log)) in
-    omega (arith, leb-true 3 l (left (leb 3 l) _ (c .before .before .before .before .before .before .before .if3 .taken)))
+    let l = length (now (c .before .before .before .before .before .before .before .before .before .before .before .before .before .before .args .log)) in
+    omega (arith, leb-true 3 l (left (leb 3 l) _ (c .before .before .before .before .before .before .before .before .if3 .taken)))
 
 returns : tie.Need-returns
 returns c =
-    let a = c .before .before .before .before .before .before .before .before .before .before .before .before .before .before .before .before .before .args in
-    let cells = c .before .before .before .before .before .before .before .before .before .before .before .before .before .cells-of .ensures in
+    let a = c .before .before .before .before .before .before .before .before .before .before .before .before .before .before .before .before .before .before .args in
+    let cells = c .before .before .before .before .before .before .before .before .before .before .before .before .before .before .cells-of .ensures in
+    let parts = c .before .before .before .before .before .before .before .before .parts-of .ensures .0 in
     rw (c .before .before .before .before .before .before .before .fill .ensures, c .before .before .before .add-row .ensures, c .fresh-state .ensures)
-    (all-set (rulesOf (a .counted)) (a .n) (a .value) (a .fresh) (now (a .table)) (now (a .log)) (c .before .before .before .before .before .before .before .before .before .before .before .before .before .before .if1 .taken) _ _ _ cells (c .before .before .before .before .before .before .before .before .before .before .before .before .if2 .taken) (c .before .before .before .before .before .before .before .before .before .before .before .if3 .taken) (sym (kind-is (a .counted)))
-    (fresh-words (a .counted) (a .n) (a .value) (a .fresh) _ _ _ cells (c .before .before .before .before .before .before .before .before .before .before .own-word .ensures) (c .before .before .before .before .before .before .before .before .before .other-word .ensures)))
+    (all-set (rulesOf (a .counted)) (a .n) (a .value) (a .fresh) (now (a .table)) (now (a .log)) (c .before .before .before .before .before .before .before .before .before .before .before .before .before .before .before .if1 .taken) _ _ _ parts (omega (arith, parts, cells, c .before .before .before .before .before .before .before .before .before .before .before .before .before .if2 .taken)) (c .before .before .before .before .before .before .before .before .before .before .before .before .if3 .taken) (sym (kind-is (a .counted)))
+    (fresh-words (a .counted) (a .n) (a .value) (a .fresh) _ _ _ parts (c .before .before .before .before .before .before .before .before .before .before .before .own-word .ensures) (c .before .before .before .before .before .before .before .before .before .before .other-word .ensures)))
 
 returns-2 : tie.Need-returns-2
 returns-2 c =
@@ -63,6 +76,7 @@ set-up-of-spec =
     (λ c κs. search needs)
     (λ c κs. search needs)
     (λ c κs. search needs)
+    parts-of-requires
     fill-requires
     cast-add-row
     add-row-requires

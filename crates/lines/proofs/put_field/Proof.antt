@@ -1,0 +1,10 @@
+use Rattle.lines.proofs.LineLaws.{field-is}
+use borrow.Author.Needs.{needs}
+use Rattle.lines.proofs.put_field.Statement.{statement}
+use Rattle.lines.proofs.put_field.Tie as tie
+
+returns : tie.Need-returns
+returns c = field-is _ (c .before .before .before .before .before .before .put-byte .ensures) (c .before .before .put-number .ensures)
+
+pub put-field-spec : {M : Type 1} → statement M
+put-field-spec = tie.close (tie.spec (λ c κs. search needs) (λ c κs. search needs) (λ c. search needs) returns)

@@ -1,0 +1,6 @@
+pub mod Answers
+pub mod Calls
+pub mod Laws
+pub mod Short
+pub mod Book
+pub mod Sessions

@@ -1,0 +1,5 @@
+pub mod Verdicts
+pub mod Texts
+pub mod AnswerWords
+pub mod Runs
+pub mod Input
