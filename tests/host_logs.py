@@ -24,7 +24,7 @@ def changed(pick, rows):
     return rows[:r] + [rows[r] ^ 1 << pick(64)] + rows[r + 1:]
 
 
-def log(pick, k):
+def log_rows(pick, k):
     n = 1 + pick(16)
     length = 1 + pick(300)
     readings = 1 + pick(4)
@@ -36,9 +36,11 @@ def log(pick, k):
         rows = damaged(pick, rows, readings)
     if k % 3:
         rows = banded(pick, rows, 1 + pick(2))
-    if k % 4 == 3:
-        rows = changed(pick, rows)
-    data = bytes_of(rows)
+    return changed(pick, rows) if k % 4 == 3 else rows
+
+
+def log(pick, k):
+    data = bytes_of(log_rows(pick, k))
     return data[:len(data) - pick(9)] if k % 11 == 0 else data
 
 
@@ -53,4 +55,5 @@ def main(outdir, count):
         print(0 if answer[0] == 'order' else answer[1], *lines, sep=', ')
 
 
-main(sys.argv[1], int(sys.argv[2]))
+if __name__ == '__main__':
+    main(sys.argv[1], int(sys.argv[2]))

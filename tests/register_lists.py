@@ -4,7 +4,7 @@
     register_lists.py OUTDIR COUNT
 
 Writes COUNT lists to OUTDIR/in, in turn of the first register and of the counted one, the same at every run, and to OUTDIR/expected
-what tests/registers.c must print; to OUTDIR/calls their calls one at a time, and to OUTDIR/answered what tests/calls.c must print for them; then prints
+what tests/registers.c must print; to OUTDIR/one-at-a-time the same calls for tests/calls.c, and to OUTDIR/answered what it must print for them; then prints
 how many calls were made and how often each refusal was met. Among the lists are ones of no readers and
 of more than 16, tables and logs of wrong lengths, retirements in the midst of reads, words that are no calls, and too few places for answers.
 """
@@ -116,7 +116,7 @@ def main(outdir, count):
     pick = dice(3)
     made, met = [0, 0], [Counter(), Counter()]
     given_file, expected, calls_file, answered_file = (
-        open(Path(outdir) / name, 'w') for name in ('in', 'expected', 'calls', 'answered'))
+        open(Path(outdir) / name, 'w') for name in ('in', 'expected', 'one-at-a-time', 'answered'))
     with given_file, expected, calls_file, answered_file:
         for k in range(count):
             *numbers, calls, places = run = given(pick, k)

@@ -1,14 +1,17 @@
 #!/usr/bin/env python3
 """Outside model of the arrow register and its judge, written from document 01 alone, and from
 document 02 for the requests that have landed (cards 1, 2, 3, 5 and 6; card 9, with its report
-CS-R8704; card 13; card 4 changes nothing that is told here).
+CS-R8704; cards 12 and 13; card 4 changes nothing that is told here).
 
     model.py bench              text on standard input, the bench's print on standard output
     model.py verdict            one line for the log whose bytes are on standard input
     model.py verdict FILE...    one line for each log file
+    model.py store              a log's bytes on standard input, its strips on standard output
+    model.py restore            the other way; a refusal of either is a line on standard error
     model.py selftest           the sessions of document 01, lists of calls of both registers,
-                                brute force against the sweep, and the two definitions of card 9
-                                on every log of a few rows, with the bands of card 13 and without
+                                brute force against the sweep, the two definitions of card 9
+                                on every log of a few rows, with the bands of card 13 and without,
+                                and the strips of card 12 on every log and list of a few rows
 
 The sections stand in the order of document 01, the buyer's scope. Quoted words are its
 own, or document 02's or the report's where that is said; “Open:” marks a choice where it
@@ -802,12 +805,18 @@ def begin_rows(rows):
     return sum(row >> 60 in (1, 3) for row in rows)
 
 
+def log_refusal(rows):
+    """Questions 9 and 10: the number of the one that refuses the log, or None."""
+    if not 1 <= len(rows) <= MAX_ROWS:
+        return 9
+    return None if well_formed(rows) else 10
+
+
 def judge(rows, order_places=None):
     """Questions 9 to 12; 11 only if a number of order places is given."""
-    if not 1 <= len(rows) <= MAX_ROWS:
-        return ('refused', 9)
-    if not well_formed(rows):
-        return ('refused', 10)
+    number = log_refusal(rows)
+    if number:
+        return ('refused', number)
     if order_places is not None and order_places < begin_rows(rows):
         return ('refused', 11)
     return sweep(rows)
@@ -835,6 +844,85 @@ def verdict(answer):
     if answer[1] == 12:
         return f'no order {answer[2]}'
     return f'refused {answer[1]}'
+
+
+# ---------------------------------------------------------------------------- Strips
+# Document 02, card 12, quoted here. Answers are the refusal's number, or what was made.
+
+def processor_of(row):
+    """What a byte names."""
+    return unpack_row(row).processor
+
+
+def strips_of(rows):
+    """“a byte per row after row 0, naming its processor; and row 0, then all rows of processor 0,
+    of 1, and so on, each in log order”. (Python's sort leaves equals in their order.)"""
+    head, *later = rows
+    return bytes(map(processor_of, later)), [head, *sorted(later, key=processor_of)]
+
+
+def store(rows, byte_places, strip_places):
+    """“Storing passes questions 9 and 10”; “too few places lent, bytes or rows, is 11, last”."""
+    number = log_refusal(rows)
+    if number:
+        return number
+    if byte_places < len(rows) - 1 or strip_places < len(rows):
+        return 11
+    return strips_of(rows)
+
+
+def strips_match(data, strips):
+    """Question 16: “one byte fewer than rows, so no rows is 16”; “the bytes, sorted rising, are
+    those of the rows after row 0”. Open: as they stand, so that rows out of turn are 16, too."""
+    return (len(data) + 1 == len(strips)
+            and sorted(data) == [processor_of(row) for row in strips[1:]])
+
+
+def put_back(data, strips):
+    """“Putting the strips back must give the log”: each byte takes the next row of its
+    processor. For strips that match."""
+    head, *later = strips
+    rows_by = {p: iter([row for row in later if processor_of(row) == p]) for p in set(data)}
+    return [head, *(next(rows_by[p]) for p in data)]
+
+
+def restore(data, strips, places):
+    """“restoring passes 16, then 9 and 10 for the log it would give”; 11 last."""
+    if not strips_match(data, strips):
+        return 16
+    rows = put_back(data, strips)
+    number = log_refusal(rows)
+    if number:
+        return number
+    return 11 if places < len(rows) else rows
+
+
+# Open: strips as a file. How many bytes there are, in eight bytes, then the bytes, then the rows,
+# eight bytes each; all numbers most significant first, as in a log. What cannot be taken apart so
+# does not match in number, 16; more than 65,536 bytes are no stored log, 9, and are not looked at.
+
+def store_file(data):
+    """The file of a log as bytes; “a length not a multiple of 8 is 9” (01)."""
+    if len(data) % 8:
+        return 9
+    rows = rows_of(data)
+    stored = store(rows, len(rows), len(rows))
+    if isinstance(stored, int):
+        return stored
+    processors, strips = stored
+    return len(processors).to_bytes(8, 'big') + processors + bytes_of(strips)
+
+
+def restore_file(data):
+    """The log as bytes of such a file."""
+    if len(data) > MAX_INPUT:
+        return 9
+    rows_at = 8 + int.from_bytes(data[:8], 'big')
+    if len(data) < rows_at or (len(data) - rows_at) % 8:
+        return 16
+    strips = rows_of(data[rows_at:])
+    rows = restore(data[8:rows_at], strips, len(strips))
+    return rows if isinstance(rows, int) else bytes_of(rows)
 
 
 # ---------------------------------------------------------------------------- Bench
@@ -1804,6 +1892,124 @@ def test_definitions():
     return tally
 
 
+def test_strip_sessions():
+    """Card 12 on logs and files written out by hand."""
+    rows = log_of(2, 7, 'W 5, R 2, r 2 3..7, R 1, w, r 1 5')
+    strips = log_of(2, 7, 'W 5, w, R 1, r 1 5, R 2, r 2 3..7')
+    equal(store(rows, 6, 7), (b'\0\2\2\1\0\1', strips), 'strips')
+    equal(restore(b'\0\2\2\1\0\1', strips, 7), rows, 'log put back')
+    older = log_of(2, 7, 'W 5, R 1, r 1 5, R 2, r 2 7')
+    equal(judge(older), ('refused', 12, 4), 'a log without an order')
+    equal(restore(*store(older, 9, 9), 9), older, 'and it is stored and put back')
+    file = bytes.fromhex('0000000000000002' '0000' '5010000000000007' '1000000000000009'
+                         '2000000000000000')
+    log = bytes_of(log_of(1, 7, 'W 9, w'))
+    equal((store_file(log), restore_file(file)), (file, log), 'strips as a file')
+    equal(store_file(bytes_of(log_of(1, 7))), bytes(8) + bytes_of(log_of(1, 7)), 'row 0 as a file')
+
+
+def test_store_questions():
+    """Card 12: 9, 10, then 11, of bytes and of rows."""
+    head, begun = log_of(1, 7), log_of(1, 7, 'R 1')
+    ended, strange, wrong = [pack_row(4, 1, 0)], [pack_row(3, 17, 0)], [pack_row(15, 1, 0)]
+    for rows, byte_places, strip_places, wanted in (
+            ([], 0, 0, 9), (wrong * 4097, 0, 0, 9), (head * 4097, 9999, 9999, 9),
+            (wrong * 4096, 0, 0, 10), (head + ended, 0, 0, 10), (head + strange, 9, 9, 10),
+            (head, 0, 0, 11), (begun, 0, 2, 11), (begun, 1, 1, 11),
+            (head, 0, 1, (b'', head)), (begun, 1, 2, (b'\1', begun)),
+            (begun, 9, 9, (b'\1', begun))):
+        equal(store(rows, byte_places, strip_places), wanted, f'storing {len(rows)} rows')
+
+
+def test_restore_questions():
+    """Card 12: 16 by number and by processor, 9, 10, then 11."""
+    head, begun = log_of(1, 7), log_of(1, 7, 'R 1')
+    ended, strange, wrong = [pack_row(4, 1, 0)], [pack_row(3, 17, 0)], [pack_row(15, 1, 0)]
+    for data, strips, places, wanted in (
+            (b'', [], 0, 16), (b'\0', [], 0, 16), (b'\1', head, 0, 16), (b'', begun, 0, 16),
+            (b'\1\1', begun, 9, 16), (b'\1', begun + ended, 9, 16), (b'\0', begun, 9, 16),
+            (b'\0\1', log_of(1, 7, 'R 1, W 5'), 9, 16),  # rows out of turn
+            # past 4,096 rows
+            (b'\1' * 4097, head + ended * 4096, 0, 16), (b'\1' * 4095, head + ended * 4096, 0, 16),
+            (b'\1' * 4095 + b'\0', head + ended * 4096, 0, 16),
+            (b'\1' * 4096, head + ended * 4096, 0, 9),
+            (b'\1' * 4095, head + ended * 4095, 0, 10), (b'\1', head + ended, 0, 10),
+            (b'', wrong, 0, 10),
+            # processors that there are not
+            (b'\x12', head + strange, 0, 16), (b'\x11', head + strange, 0, 10),
+            (b'\xff', head + [pack_row(3, 255, 0)], 0, 10),
+            (b'', head, 0, 11), (b'\1', begun, 1, 11),
+            (b'', head, 1, head), (b'\1', begun, 2, begun), (b'\1', begun, 9, begun)):
+        equal(restore(data, strips, places), wanted, f'restoring {len(strips)} rows')
+
+
+def test_strip_files():
+    """Files that are no stored logs, and the longest that is one."""
+    begun = log_of(1, 7, 'R 1')
+    file = store_file(bytes_of(begun))
+    count, rest = file[:8], file[8:]
+    for data in (b'', b'\0', file[:7], count, file[:-1], file[:-8], file + b'\0', file + bytes(8),
+                 bytes(8), bytes(7) + b'\2' + rest, bytes(7) + b'\x12' + rest, b'\xff' * 8 + rest,
+                 b'\1' + file[1:], bytes(65536)):
+        equal(restore_file(data), 16, f'file of {len(data)} bytes')
+    for data in (b'', b'\0' * 7, bytes_of(begun)[:-1], bytes(8 * 4097)):
+        equal(store_file(data), 9, f'log of {len(data)} bytes')
+    equal(store_file(bytes(16)), 10, 'a log of no sense')
+    full = random_log(random.Random(5).randrange, 16, MAX_ROWS, 9)
+    longest = store_file(bytes_of(full))
+    equal((len(longest), restore_file(longest)), (36871, bytes_of(full)), 'the longest file')
+    equal(restore_file(longest + bytes(65537 - 36871)), 9, 'more than 65,536 bytes')
+    ended = begun[:1] + [pack_row(4, 1, 0)] * 4096
+    for rows, wanted in (ended, 9), (ended[:-1], 10):
+        data = (len(rows) - 1).to_bytes(8, 'big') + b'\1' * (len(rows) - 1) + bytes_of(rows)
+        equal(restore_file(data), wanted, f'file of {len(rows)} rows')
+
+
+def test_stored_logs():
+    """Every log of a few rows: its strips as the sentence has them, and the log put back; from
+    the bytes backwards another log, which has these strips; just enough places, and one fewer."""
+    tally = 0
+    for n, readings, most, bands in ((1, 2, 8, False), (1, 2, 7, True), (2, 2, 6, True),
+                                     (4, 1, 6, False)):
+        for rows in chain.from_iterable(small_logs(n, readings, length, bands)
+                                        for length in range(1, most + 1)):
+            name, length, later = bytes_of(rows).hex(), len(rows), rows[1:]
+            data, strips = store(rows, length - 1, length)
+            equal(list(data), [row >> 52 & 255 for row in later], 'bytes of ' + name)
+            equal(strips, rows[:1] + [row for p in range(256) for row in later
+                                      if row >> 52 & 255 == p], 'strips of ' + name)
+            equal(restore(data, strips, length), rows, 'log put back ' + name)
+            equal(strips_of(restore(data[::-1], strips, length)), (data[::-1], strips),
+                  'bytes backwards of ' + name)
+            equal(restore(data, strips, length - 1), 11, 'log places for ' + name)
+            equal(store(rows, length - 1, length - 1), 11, 'strip places for ' + name)
+            if later:
+                equal(store(rows, length - 2, length), 11, 'byte places for ' + name)
+            tally += 1
+    return tally
+
+
+def test_matching_strips():
+    """Every few bytes with every few rows: 16 exactly if they are the strips of no list of rows,
+    else 10 or the list, of which there is then one only."""
+    words = (*log_of(1, 0, 'W 0, w, R 1, r 1 0'), pack_row(3, 17, 0))
+    lists = [list(rows) for length in range(1, 5) for rows in product(words, repeat=length)]
+    lists_of = {}
+    for rows in lists:
+        data, strips = strips_of(rows)
+        lists_of.setdefault((data, *strips), []).append(rows)
+    tally = Counter()
+    for numbers in chain.from_iterable(product((0, 1, 17), repeat=length) for length in range(5)):
+        data = bytes(numbers)
+        for strips in [[], *lists]:
+            of = lists_of.get((data, *strips), [])
+            must(len(of) <= 1, 'two lists with the same strips')
+            wanted = 16 if not of else of[0] if well_formed(of[0]) else 10
+            equal(restore(data, strips, 4), wanted, f'{data.hex()} with {bytes_of(strips).hex()}')
+            tally[wanted if isinstance(wanted, int) else 'logs'] += 1
+    return tally
+
+
 def check_table(register):
     """“Cells to the writer have reading 0; in all other cells the announced fields are
     always none”; “A ticket is 0 to 3n+2”; further cells are never touched."""
@@ -1847,11 +2053,18 @@ def selftest():
     test_counted_retired()
     test_counted_rules()
     test_counted_questions()
+    test_strip_sessions()
+    test_store_questions()
+    test_restore_questions()
+    test_strip_files()
     for line in test_lists():
         print(line)
     tally = test_judges()
     print(f'two definitions agree on all {test_definitions()} small logs')
     print(f"brute force and sweep agree: {tally['order']} orders, {tally['refused']} refusals")
+    print(f'strips of all {test_stored_logs()} small logs put back')
+    tally = test_matching_strips()
+    print(f"bytes and rows: {tally['logs']} restored, 10: {tally[10]}, 16: {tally[16]}")
     print('selftest passed')
 
 
@@ -1867,6 +2080,11 @@ def main(arguments):
         for name in arguments[1:]:
             with open(name, 'rb') as file:
                 print(verdict(judge_bytes(file.read())))
+    elif arguments in (['store'], ['restore']):
+        made = {'store': store_file, 'restore': restore_file}[arguments[0]](sys.stdin.buffer.read())
+        if isinstance(made, int):
+            sys.exit(f'refused {made}')
+        sys.stdout.buffer.write(made)
     elif arguments == ['selftest']:
         try:
             selftest()

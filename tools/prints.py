@@ -15,7 +15,7 @@ sys.dont_write_bytecode = True
 from bench_inputs import EXAMPLE, bench_inputs
 from draw import listed, picture
 from model import (
-    MAX_ROWS, NO_STAMP, Counted, Register, bench, bytes_of, judge, listing, log_of, unpack_cell, unpack_counted)
+    MAX_ROWS, NO_STAMP, Counted, Register, bench, bytes_of, judge, listing, log_of, store_file, unpack_cell, unpack_counted)
 from soak import soak_lines
 from trials_expected import trials_input, trials_lines
 from verdict_logs import STANDARD_INPUT, expected, verdict_logs
@@ -30,6 +30,14 @@ def judging():
     yield 'args', lines_of([*logs, '-'])
     yield 'stdout', lines_of([*(expected(name, log) for name, log in logs.items()), expected('-', STANDARD_INPUT)])
     yield from (('data/' + name, log) for name, log in logs.items())
+
+
+def stripping():
+    """What strips is run on: a log of sixteen readers, some reads with a band, to be stored."""
+    log = next(log for name, log in verdict_logs().items() if name.endswith('band-register-16-200.log'))
+    yield 'args', b'store\n'
+    yield 'stdin', log
+    yield 'stdout', store_file(log)
 
 
 def joining():
@@ -49,7 +57,7 @@ SOUNDER_LOGS = {
 
 
 def examples():
-    """The print of each example's input, and the picture of one; the logs that are examples, with verdict's line and a picture."""
+    """The print of each example's input, and the picture of one; the logs that are examples, with verdict's line, a picture and their strips."""
     for path in sorted((ROOT / 'examples').glob('*.txt')):
         print_ = bench(path.read_bytes())
         yield path.stem + '.out', print_.encode()
@@ -65,6 +73,7 @@ def examples():
         yield name + '.log', data
         yield name + '.out', line.encode()
         yield name + '.svg', picture(listed(data) + line).encode()
+        yield name + '.strips', store_file(data)
 
 
 def scope(text):
@@ -134,6 +143,7 @@ def lines_of(lines):
 FOLDERS = {
     'crates/verdict': judging,
     'crates/bench': joining,
+    'crates/strips': stripping,
     'crates/trials': lambda: [('stdin', lines_of(trials_input())), ('stdout', lines_of(trials_lines()))],
     'crates/soak': lambda: [('stdout', lines_of(soak_lines()))],
     'examples': examples,

@@ -3,8 +3,9 @@
 use libc::STDIN_FILENO;
 ghost use mathlib.Core.Path.{_≡_};
 ghost use Prim.Native.Nat.{_≤_};
+ghost use lib.ListN.{length, replicate};
 ghost use Rattle.io.specs.Counts.{Counts};
-ghost use Rattle.inputs.specs.Dash.{isDash};
+ghost use Rattle.words.specs.Same.{same};
 
 // What was read: whether there is such an input, and how many bytes are its.
 pub struct Input {
@@ -12,14 +13,29 @@ pub struct Input {
     pub count: usize,
 }
 
-// Whether an argument is `-`.
-fn is_dash(argument: &[u8]) -> bool
-    ensures { λ r. ⌜ r ≡ isDash (now (argument .entry)) ⌝ }
+// Whether two texts are the same.
+pub fn is_same(text: &[u8], word: &[u8]) -> bool
+    ensures { λ r. ⌜ r ≡ same (now (text .entry)) (now (word .entry)) ⌝ }
 {
-    if argument.len() != 1 {
+    if text.len() != word.len() {
         return false;
     }
-    argument[0] == b'-'
+    let mut i = 0;
+    while i < text.len() {
+        if text[i] != word[i] {
+            return false;
+        }
+        i += 1;
+    }
+    true
+}
+
+// Room for a log as bytes, and for one byte more, so that a longer one is seen to be longer.
+pub fn log_bytes() -> [u8; 32769]
+    ensures zeros { λ r. ⌜ r ≡ replicate 32769 0 ⌝ }
+    ensures length { λ r. ⌜ 32769 ≡ length r ⌝ }
+{
+    [0; 32769]
 }
 
 // No input: a line on standard error says why.
@@ -66,7 +82,7 @@ fn read_argument(k: usize, bytes: &mut [u8]) -> Input
     if os::errno() != 0 {
         return missing(b"argument", bytes);
     }
-    if is_dash(&argument[..n]) {
+    if is_same(&argument[..n], b"-") {
         return read_from(STDIN_FILENO, bytes);
     }
     read_file(&argument[..n], bytes)

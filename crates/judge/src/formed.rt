@@ -9,8 +9,6 @@ use super::row::is_begin;
 use super::row::open_after;
 use super::row::processor;
 ghost use mathlib.Core.Path.{_≡_};
-ghost use Prim.Native.Nat.{_≤_};
-ghost use lib.ListN.{length};
 ghost use Rattle.history.specs.WellFormed.{isReader, headOk, fieldsOk, alternates, wellFormed};
 
 // Whether p is one of the readers 1..n.
@@ -81,10 +79,12 @@ fn may_follow(row: u64, b: usize) -> bool
 }
 
 // Whether the rows are well formed.
-pub(crate) fn well_formed(rows: &[u64]) -> bool
-    requires { ⌜ 1 ≤ length (now rows) ⌝ }
+pub fn well_formed(rows: &[u64]) -> bool
     ensures { λ r. ⌜ r ≡ wellFormed (now (rows .entry)) ⌝ }
 {
+    if rows.len() < 1 {
+        return false;
+    }
     let head = rows[0];
     if head_ok(head) {} else {
         return false;

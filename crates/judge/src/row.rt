@@ -20,7 +20,7 @@ pub(crate) const BAND: u64 = 6;
 pub(crate) const PROCESSORS: usize = 17;
 
 // The processor of a row.
-pub(crate) fn processor(row: u64) -> usize
+pub fn processor(row: u64) -> usize
     ensures { λ r. ⌜ r ≡ processorOf row ⌝ }
 {
     (row / PROCESSOR % 256) as usize

@@ -16,7 +16,7 @@ ghost use Rattle.judging.specs.Keys.{Put};
 ghost use Rattle.judging.specs.Meaning.{Means};
 
 // Question 9.
-fn right_length(n: usize) -> bool
+pub fn right_length(n: usize) -> bool
     ensures { λ r. ⌜ r ≡ rightLength n ⌝ }
 {
     (1 <= n) & (n <= 4096)

@@ -9,7 +9,7 @@ use mathlib.Core.List.{List, []}
 use lib.Dec.{T, eqb, leb, ltb, leb→le, ltb→lt, lt→ltb}
 use lib.ListN.{length, getD, set, replicate, length-set, getD-replicate}
 use lib.Seq.{getD-set-same, getD-set-other}
-use borrow.Author.Tests.{eq-eqb, ne-eqb}
+use borrow.Author.Tests.{eq-eqb, ne-eqb, le-ltb}
 use Rattle.words.specs.Choice.{pick}
 use Rattle.words.proofs.Laws.Choice.{pick-T, and-T, T-left, T-right, T→true, not→false}
 use Rattle.judging.proofs.FoldLaws.{upTo-one, upTo-suc}
@@ -139,6 +139,10 @@ module _ (log : List ℕ) where
   unfolding all
   all-suc zero a t u = absurd (omega arith)
   all-suc (suc k) a t u = rw (add-one (suc k)) (and-T (all (rowOk log) (suc k)) _ t u)
+
+  pub formed-none : length log < 1 → false ≡ wellFormed log
+  unfolding wellFormed
+  formed-none a = rw (le-ltb 0 (length log) (omega arith))
 
   pub formed-head : headOk (getD log 0 0) ≡ false → false ≡ wellFormed log
   unfolding headOk

@@ -5,7 +5,7 @@ ghost use mathlib.Core.Path.{_≡_};
 ghost use Rattle.lines.specs.Lines.{decimal, lineOf, badLine, refusedLine, noOrderLine, field, orderLine, letterOf, readerText, readingText, rowLine, readersLine, Puts};
 
 // One byte.
-fn put_byte(out: &mut [u8], at: usize, b: u8) -> usize
+pub fn put_byte(out: &mut [u8], at: usize, b: u8) -> usize
     ensures { λ r. ⌜ Puts (b ∷ []) at (now (out .entry)) (now (out .exit)) r ⌝ }
 {
     if at < out.len() {
@@ -16,7 +16,7 @@ fn put_byte(out: &mut [u8], at: usize, b: u8) -> usize
 }
 
 // A text.
-fn put_text(out: &mut [u8], at: usize, text: &[u8]) -> usize
+pub fn put_text(out: &mut [u8], at: usize, text: &[u8]) -> usize
     ensures { λ r. ⌜ Puts (now (text .entry)) at (now (out .entry)) (now (out .exit)) r ⌝ }
 {
     let mut end = at;

@@ -2,8 +2,8 @@
 ghost use mathlib.Core.List.{_++_};
 ghost use mathlib.Core.Path.{_≡_};
 ghost use Prim.Native.Nat.{_+_, _^_, _<_, _≤_, min};
-ghost use lib.ListN.{length, drop};
-ghost use Rattle.logbytes.specs.Bytes.{halfAt, wordAt, readInto, rowsIn};
+ghost use lib.ListN.{length, getD, drop};
+ghost use Rattle.logbytes.specs.Bytes.{halfAt, wordAt, readInto, rowsIn, bytesOf};
 
 fn wide(x: u8) -> u64
     ensures { λ r. ⌜ (r ≡ x) × (r < 256) ⌝ }
@@ -64,4 +64,14 @@ pub fn rows_in(bytes: &[u8], rows: &mut [u64]) -> usize
     }
     read_rows(bytes, rows);
     count
+}
+
+// Byte k of rows as bytes; 0 behind the last.
+pub fn byte_at(rows: &[u64], k: usize) -> u8
+    ensures { λ r. ⌜ r ≡ getD (bytesOf (now (rows .entry))) k 0 ⌝ }
+{
+    if k / 8 < rows.len() {
+        return ((rows[k / 8] >> (56 - 8 * (k % 8))) % 256) as u8;
+    }
+    0
 }

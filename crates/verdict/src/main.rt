@@ -5,13 +5,6 @@ use prints::verdict::verdict_print;
 ghost use mathlib.Core.Path.{_≡_};
 ghost use lib.ListN.{length};
 
-// Room for a log as bytes, and for one byte more.
-fn log_bytes() -> [u8; 32769]
-    ensures { λ r. ⌜ 32769 ≡ length r ⌝ }
-{
-    [0; 32769]
-}
-
 // Room for every line.
 fn line_bytes() -> [u8; 131072]
     ensures { λ r. ⌜ 131072 ≡ length r ⌝ }
@@ -21,7 +14,7 @@ fn line_bytes() -> [u8; 131072]
 
 // The line of input k. Of an input that is longer than 4,096 rows one byte more is read.
 fn print_input(k: usize) {
-    let mut bytes = log_bytes();
+    let mut bytes = inputs::log_bytes();
     let input = inputs::read(k, &mut bytes);
     if input.found {
         let count = input.count;

@@ -1,5 +1,6 @@
 -- The laws of words, that callers use in place of the definitions' texts.
 pub mod Choice
+pub mod Same
 pub mod Update
 pub mod Bits
 pub mod Stamp

@@ -1,4 +1,5 @@
 pub mod Choice
+pub mod Same
 pub mod Update
 pub mod Bits
 pub mod Stamp

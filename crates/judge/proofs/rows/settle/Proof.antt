@@ -21,9 +21,6 @@ returns c =
     let r = now (c .before .before .before .args .rows) in
     sym (settled-is r _ (no9 (wrong r (sym (c .before .right-length .ensures) ∙ c .if1 .left))))
 
-well-formed-requires : tie.Need-well-formed-requires
-well-formed-requires c κs = right→ (now (c .before .before .before .args .rows)) (rw (sym (c .before .right-length .ensures) ∙ c .if1 .taken) tt) .some
-
 returns-2 : tie.Need-returns-2
 returns-2 c =
     let r = now (c .before .before .before .before .before .args .rows) in
@@ -65,7 +62,7 @@ settle-spec =
     (tie.spec
     (λ c κs. search needs)
     returns
-    well-formed-requires
+    (λ c κs. search needs)
     returns-2
     lacks-room-requires
     returns-3

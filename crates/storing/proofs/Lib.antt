@@ -1,0 +1,14 @@
+pub mod Gathered
+pub mod Counts
+pub mod Back
+pub mod RoundTrip
+pub mod Formed
+pub mod Answers
+pub mod Sorting
+pub mod Placed
+pub mod Unique
+pub mod Meaning
+pub mod Exact
+pub mod FileBack
+pub mod Long
+pub mod Sessions
