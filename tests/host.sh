@@ -1,10 +1,11 @@
 #!/usr/bin/env bash
 # What C can call, against the outside model: the judge on random logs, then both registers on random lists of calls, then logs stored in
-# strips: host.sh [LOGS [LISTS [STRIPS]]]. Not part of the gate.
+# strips; last, the program that makes course sheets: host.sh [LOGS [LISTS [STRIPS [SHEETS]]]]. Not part of the gate.
 . "$(dirname "$0")/build.sh"
 count=${1:-2000}
 lists=${2:-4000}
 strips=${3:-3000}
+sheets=${4:-2000}
 mkdir "$out/logs"
 
 built examples/host.c judge
@@ -16,3 +17,4 @@ cut -d, -f1 "$out/expected" | cmp - "$out/given"
 echo "$count logs: C and the model agree ($(sort "$out/given" | uniq -c | awk '{printf "%s%s times %s", s, $1, $2; s = ", "}')); $SECONDS s"
 tests/registers.sh "$lists"
 tests/strips.sh "$strips"
+tests/sheets.sh "$sheets"

@@ -17,14 +17,10 @@ sys.dont_write_bytecode = True
 sys.path.insert(0, str(Path(__file__).resolve().parent.parent / 'tools'))
 
 from model import LAST_STAMP, Counted, Register, answer_word, cells_of, counted_cells_of, make_calls
-from verdict_logs import dice
+from verdict_logs import dice, one_of
 
 TABLE, LOG, ANSWERS = 0xABAB << 48, 0xCDCD << 48, 0xEFEF << 48  # what the first word of each buffer holds; the next one more
 LENGTHS = (0, 2, 3, 4, 5, 9, 20, 60, 200, 400, 4096, 4097)
-
-
-def one_of(pick, things):
-    return things[pick(len(things))]
 
 
 def word(pick):

@@ -23,14 +23,10 @@ from host_logs import changed, log_rows
 from model import (
     MAX_INPUT, MAX_ROWS, Mismatch, banded, bytes_of, equal, must, pack_row, processor_of, random_log, restore, restore_file, store,
     store_file, strips_of)
-from verdict_logs import dice, full_log
+from verdict_logs import dice, full_log, one_of
 
 READ, WRITTEN = 0xABAB << 48, 0xCDCD << 48  # what the first word of a buffer holds that is read or written; the next one more
 FULL = full_log()
-
-
-def one_of(pick, things):
-    return things[pick(len(things))]
 
 
 # ---------------------------------------------------------------------------- Logs

@@ -1,17 +1,20 @@
 #!/usr/bin/env python3
 """Outside model of the arrow register and its judge, written from document 01 alone, and from
 document 02 for the requests that have landed (cards 1, 2, 3, 5 and 6; card 9, with its report
-CS-R8704; cards 12 and 13; card 4 changes nothing that is told here).
+CS-R8704; cards 10, 12 and 13; card 4 changes nothing that is told here).
 
     model.py bench              text on standard input, the bench's print on standard output
     model.py verdict            one line for the log whose bytes are on standard input
     model.py verdict FILE...    one line for each log file
+    model.py sheet              the course sheet of the log whose bytes are on standard input
+    model.py sheet FILE...      the sheets of log files, one behind the other
     model.py store              a log's bytes on standard input, its strips on standard output
     model.py restore            the other way; a refusal of either is a line on standard error
     model.py selftest           the sessions of document 01, lists of calls of both registers,
                                 brute force against the sweep, the two definitions of card 9
                                 on every log of a few rows, with the bands of card 13 and without,
-                                and the strips of card 12 on every log and list of a few rows
+                                the sheets of card 10 on these, added in two ways, and the strips
+                                of card 12 on every log and list of a few rows
 
 The sections stand in the order of document 01, the buyer's scope. Quoted words are its
 own, or document 02's or the report's where that is said; “Open:” marks a choice where it
@@ -846,6 +849,75 @@ def verdict(answer):
     return f'refused {answer[1]}'
 
 
+# ---------------------------------------------------------------------------- The course sheet
+# Document 02, card 10, quoted here. An answer is the judge's refusal, or ('sheet', the figures of
+# readers 1..n, those of all).
+
+# “the number of ended reads and the sum of their lags”.
+Figures = namedtuple('Figures', 'reads lags')
+
+
+def writes_behind(rows, order):
+    """For each read, by begin row, the begin row of the write that “it stands behind in the judge's
+    order”, 0 for the start."""
+    behind, last = {}, 0
+    for begin in order:
+        if unpack_row(rows[begin]).kind == 1:
+            last = begin
+        else:
+            behind[begin] = last
+    return behind
+
+
+def lag_of(read, behind, writes):
+    """“a read's lag: writes begun before its end row, less the place, among the writes, of the one
+    it stands behind in the judge's order (place 0 for the start)”. Writes are begin rows here, and
+    all of the log."""
+    begun = sum(write < read.end for write in writes)
+    place = 0 if behind == 0 else 1 + writes.index(behind)
+    return begun - place
+
+
+def lags_of(rows, order):
+    """Of every ended read, by begin row, its reader and its lag."""
+    deeds, behind = deeds_of(rows), writes_behind(rows, order)
+    writes = [deed.begin for deed in deeds if deed.is_write]
+    return [(unpack_row(rows[read.begin]).processor, lag_of(read, behind[read.begin], writes))
+            for read in deeds if not read.is_write and read.end is not None]
+
+
+def sheet(rows):
+    """“Give per reader the number of ended reads and the sum of their lags, and the totals”: “add
+    per reader and then over readers”. “A log that the judge refuses has no sheet and gets the
+    judge's refusal; order places and an index are not lent.”"""
+    answer = judge(rows)
+    if answer[0] == 'refused':
+        return answer
+    lags = lags_of(rows, answer[1])
+    each = []
+    for reader in range(1, unpack_row(rows[0]).processor + 1):
+        own = [lag for by, lag in lags if by == reader]
+        each.append(Figures(len(own), sum(own)))
+    return ('sheet', each, Figures(sum(own.reads for own in each), sum(own.lags for own in each)))
+
+
+def sheet_lines(answer):
+    """Open: a line for each reader, those without reads too, and one for all; or the refusal's."""
+    if answer[0] == 'refused':
+        yield verdict(answer)
+        return
+    _, each, total = answer
+    for reader, own in enumerate(each, 1):
+        yield f'reader {reader} reads {own.reads} lag {own.lags}'
+    yield f'all reads {total.reads} lag {total.lags}'
+
+
+def sheet_print(data):
+    """What is printed for a log as bytes; “a length not a multiple of 8 is 9” (01)."""
+    answer = ('refused', 9) if len(data) % 8 else sheet(rows_of(data))
+    return ''.join(line + '\n' for line in sheet_lines(answer))
+
+
 # ---------------------------------------------------------------------------- Strips
 # Document 02, card 12, quoted here. Answers are the refusal's number, or what was made.
 
@@ -1059,18 +1131,23 @@ def random_log(pick, n, length, readings):
     return rows
 
 
+def take_turn(register, p, reading):
+    """One call of processor p: its next sub-step, or a begin if it is idle, of a write of reading()."""
+    if register.open[p] is not None:
+        register.step(p)
+    elif p == 0:
+        register.begin_write(reading())
+    else:
+        register.begin_read(p)
+
+
 def run_register(pick, register, length, readings, burst):
     """Calls at random, a processor's in bursts, until the log has this many rows, fewer
     than it can hold."""
     while register.used < length:
         p = pick(register.n + 1)
         for _ in range(1 + pick(burst)):
-            if register.open[p] is not None:
-                register.step(p)
-            elif p == 0:
-                register.begin_write(pick(readings))
-            else:
-                register.begin_read(p)
+            take_turn(register, p, lambda: pick(readings))
             if register.used == length:
                 break
 
@@ -1892,6 +1969,92 @@ def test_definitions():
     return tally
 
 
+# Card 10, by hand: name, n, start reading, rows, reads and lags of each reader, those of all.
+SHEET_SESSIONS = [
+    ('nothing', 2, 7, '', [(0, 0), (0, 0)], (0, 0)),
+    ('no-write', 1, 7, 'R 1, r 1 7', [(1, 0)], (1, 0)),
+    # A read over two whole writes: 2 have begun before its end row; it stands behind the start,
+    # the first or the second.
+    ('over-two-behind-the-start', 1, 7, 'R 1, W 5, w, W 6, w, r 1 7', [(1, 2)], (1, 2)),
+    ('over-two-behind-the-first', 1, 7, 'R 1, W 5, w, W 6, w, r 1 5', [(1, 1)], (1, 1)),
+    ('over-two-behind-the-second', 1, 7, 'R 1, W 5, w, W 6, w, r 1 6', [(1, 0)], (1, 0)),
+    # A write counts from its begin row on, ended or not, listed in the order or not, to the read's
+    # end row, and no later one does.
+    ('begun-not-ended', 1, 7, 'R 1, W 5, r 1 7, w', [(1, 1)], (1, 1)),
+    ('begun-before-the-read', 1, 7, 'W 5, R 1, w, r 1 7', [(1, 1)], (1, 1)),
+    ('ended-before-the-read', 1, 7, 'W 5, w, R 1, W 6, r 1 5, w', [(1, 1)], (1, 1)),
+    ('unended-write-not-listed', 1, 7, 'W 5, R 1, r 1 7', [(1, 1)], (1, 1)),
+    ('unended-write-listed', 1, 7, 'W 5, R 1, r 1 5', [(1, 0)], (1, 0)),
+    ('begun-later', 1, 7, 'R 1, r 1 7, W 5, w, W 6, w', [(1, 0)], (1, 0)),
+    # The place is among the writes: the order is 1 3 5 7 8, in which row 3 is the second.
+    ('place-among-the-writes', 2, 7, 'R 1, r 1 7, W 5, w, R 1, r 1 5, R 2, W 6, w, r 2 5',
+     [(2, 0), (1, 1)], (3, 1)),
+    # One reading more than once: the earliest write, or the start; not below the floor, by a write
+    # that ended or by another reader's read.
+    ('twice-the-earliest', 1, 7, 'R 1, W 5, w, W 5, w, r 1 5', [(1, 1)], (1, 1)),
+    ('twice-the-start', 1, 5, 'R 1, W 5, w, r 1 5', [(1, 1)], (1, 1)),
+    ('twice-from-the-floor', 1, 7, 'W 5, w, W 6, w, R 1, W 5, r 1 5', [(1, 0)], (1, 0)),
+    ('twice-from-a-read', 2, 7, 'W 5, w, W 6, R 1, r 1 6, R 2, w, W 5, r 2 5', [(1, 0), (1, 0)],
+     (2, 0)),
+    # Unended reads are none.
+    ('unended-reads', 3, 7, 'R 3, R 2, W 5, w, r 2 7, R 2, R 1, W 6', [(0, 0), (1, 1), (0, 0)],
+     (1, 1)),
+    # Bands (card 13): behind the start; the first write within; the first from the floor on; and
+    # one reader's reads of both sorts, with lags 1, 1 and 0.
+    ('band-behind-the-start', 1, 7, 'R 1, W 5, w, W 6, w, r 1 4..9', [(1, 2)], (1, 2)),
+    ('band-behind-the-first', 1, 7, 'R 1, W 5, w, W 6, w, r 1 5..6', [(1, 1)], (1, 1)),
+    ('band-from-the-floor', 1, 7, 'W 5, w, W 6, w, R 1, W 8, r 1 5..8', [(1, 1)], (1, 1)),
+    ('band-and-result', 1, 7, 'R 1, W 5, r 1 7, R 1, w, W 6, r 1 4..5, R 1, r 1 6..6', [(3, 2)],
+     (3, 2)),
+    # Reader 1: lags 1 and 1; reader 3: 2 and 1.
+    ('three-readers', 3, 0,
+     'R 1, W 1, w, r 1 0, R 1, W 2, R 3, w, r 1 1, W 3, r 3 1, w, R 3, W 4, r 3 3',
+     [(2, 2), (0, 0), (2, 3)], (4, 5)),
+    # Document 01: the order 2 1 4 has lags 1 and 0; 1 2 4 8 has 3 − 1 and 3 − 2.
+    ('session-read-before-write', 2, 7, 'W 5, R 2, r 2 7, R 1, r 1 5', [(1, 0), (1, 1)], (2, 1)),
+    ('session-earliest-write', 2, 7, 'W 5, R 1, w, W 6, w, W 5, r 1 5, R 2, r 2 6',
+     [(1, 2), (1, 1)], (2, 3)),
+    # Sixteen: one of them looks; all begin at once and end a write later each, 0 + 1 + … + 15.
+    ('sixteen-one-looks', 16, 7, 'R 11, W 5, w, r 11 7',
+     [(0, 0)] * 10 + [(1, 1)] + [(0, 0)] * 5, (1, 1)),
+    ('sixteen-rising', 16, 99,
+     ', '.join([f'R {i}' for i in range(1, 17)] + [f'r {i} 99, W {i}, w' for i in range(1, 17)]),
+     [(1, i) for i in range(16)], (16, 120)),
+    # Ten reads with a lag of ten each.
+    ('tens', 1, 0,
+     ', '.join(f'R 1, {"".join(f"W {10 * k + i}, w, " for i in range(1, 11))}r 1 {10 * k}'
+               for k in range(10)), [(10, 100)], (10, 100)),
+]
+
+# A print written out, and the refusals: of a log that has no order, of one that is malformed, too,
+# and of one row too many, malformed, too.
+SHEET_PRINTS = [
+    (bytes_of(log_of(3, 7, 'W 5, R 3, w, r 3 7, R 1, r 1 5, R 3, W 6, w, r 3 5')),
+     'reader 1 reads 1 lag 0\nreader 2 reads 0 lag 0\nreader 3 reads 2 lag 2\n'
+     'all reads 3 lag 2\n'),
+    (bytes_of(log_of(1, 7)), 'reader 1 reads 0 lag 0\nall reads 0 lag 0\n'),
+    (bytes_of(log_of(2, 7, 'W 5, R 1, r 1 5, R 2, r 2 7')), 'no order 4\n'),
+    (bytes_of(log_of(2, 7, 'W 5, R 1, r 1 5, R 2, r 2 7, w, w')), 'refused 10\n'),
+    (bytes_of(log_of(2, 7, 'R 1, r 1 8..7')), 'refused 10\n'),
+    (bytes_of(log_of(17, 7)), 'refused 10\n'),
+    (b'', 'refused 9\n'),
+    (bytes_of(log_of(1, 7))[:7], 'refused 9\n'),
+    (bytes_of(log_of(1, 7)) + b'\0', 'refused 9\n'),
+    (bytes(8 * 4097), 'refused 9\n'),
+]
+
+
+def test_sheet_sessions():
+    """Card 10 on logs written out by hand, the short ones with an order by the definition, too."""
+    for name, n, start, text, each, total in SHEET_SESSIONS:
+        rows = log_of(n, start, text)
+        equal(sheet(rows), ('sheet', each, total), 'sheet of ' + name)
+        if len(rows) <= 17:
+            equal(brute(rows), judge(rows), 'order of ' + name)
+    for data, print_ in SHEET_PRINTS:
+        equal(sheet_print(data), print_, f'sheet of {data[:80].hex()}')
+
+
 def test_strip_sessions():
     """Card 12 on logs and files written out by hand."""
     rows = log_of(2, 7, 'W 5, R 2, r 2 3..7, R 1, w, r 1 5')
@@ -1963,6 +2126,77 @@ def test_strip_files():
     for rows, wanted in (ended, 9), (ended[:-1], 10):
         data = (len(rows) - 1).to_bytes(8, 'big') + b'\1' * (len(rows) - 1) + bytes_of(rows)
         equal(restore_file(data), wanted, f'file of {len(rows)} rows')
+
+
+def last_write(rows, order, read):
+    """Told again: the write that the read stands behind. There is one writer, so that the last
+    one before it in the order is the newest there."""
+    before = order[:order.index(read)]
+    return max((begin for begin in before if rows[begin] >> 60 == 1), default=0)
+
+
+def lag_between(rows, order, read):
+    """The lag told again: the writes begun strictly between the begin row of the write that the
+    read stands behind, row 0 for the start, and its end row."""
+    end = next(r for r in range(read + 1, len(rows))
+               if processor_of(rows[r]) == processor_of(rows[read]))
+    return sum(row >> 60 == 1 for row in rows[last_write(rows, order, read) + 1:end])
+
+
+def row_by_row(rows, order):
+    """“Today's sheet adds row by row”: running sums over the log."""
+    begun = reads = lags = 0
+    places, begins = {0: 0}, {}
+    for r, row in enumerate(map(unpack_row, rows)):
+        if row.kind == 1:
+            begun += 1
+            places[r] = begun
+        elif row.kind == 3:
+            begins[row.processor] = r
+        elif row.kind in (4, 6):
+            reads += 1
+            lags += begun - places[last_write(rows, order, begins[row.processor])]
+    return reads, lags
+
+
+def check_sheet(rows, answer):
+    """A log's sheet against the judgment, told again; what there is to be counted, its lags too."""
+    name = bytes_of(rows).hex()
+    if answer[0] == 'refused':
+        equal(sheet(rows), answer, 'refusal of ' + name)
+        return ['refused']
+    order = answer[1]
+    _, each, total = sheet(rows)
+    retold = [(processor_of(rows[read]), lag_between(rows, order, read))
+              for read in order if rows[read] >> 60 == 3]
+    equal(sorted(lags_of(rows, order)), sorted(retold), 'lags of ' + name)
+    equal(total, row_by_row(rows, order), 'totals of ' + name)
+    equal(len(each), processor_of(rows[0]), 'readers of ' + name)
+    for reader, own in enumerate(each, 1):
+        ends = sum(row >> 52 in (0x400 + reader, 0x600 + reader) for row in rows)
+        equal(own, (ends, sum(lag for by, lag in retold if by == reader)), 'figures of ' + name)
+    return ['sheets'] + [lag for _, lag in retold]
+
+
+def test_sheets():
+    """Card 10 on every log of a few rows, with the order that the definition gives, and on longer
+    ones of the register, half of them with bands, with the sweep's: a lag told in another way, so
+    never negative; “the totals must agree” with those that are added row by row."""
+    tally = Counter()
+    for n, readings, most, bands in ((1, 2, 8, False), (2, 2, 7, False), (3, 1, 6, False),
+                                     (1, 3, 6, True), (2, 2, 6, True)):
+        for rows in chain.from_iterable(small_logs(n, readings, length, bands)
+                                        for length in range(1, most + 1)):
+            tally.update(check_sheet(rows, brute(rows)))
+    pick = random.Random(6).randrange
+    for trial in range(200):
+        n, readings = 1 + pick(8), 1 + pick(9)
+        rows = register_log(pick, n, pick(readings), 1 + pick(150), readings, 1 + pick(40))
+        if trial % 2:
+            rows = banded(pick, rows, 2)
+        tally.update(check_sheet(rows, sweep(rows)))
+    must(min(tally[k] for k in ('refused', *range(5))) > 100, 'small and larger lags are common')
+    return tally
 
 
 def test_stored_logs():
@@ -2053,6 +2287,7 @@ def selftest():
     test_counted_retired()
     test_counted_rules()
     test_counted_questions()
+    test_sheet_sessions()
     test_strip_sessions()
     test_store_questions()
     test_restore_questions()
@@ -2062,6 +2297,9 @@ def selftest():
     tally = test_judges()
     print(f'two definitions agree on all {test_definitions()} small logs')
     print(f"brute force and sweep agree: {tally['order']} orders, {tally['refused']} refusals")
+    tally = test_sheets()
+    print(f"sheets told in two ways agree: {tally['sheets']}, refusals {tally['refused']}; "
+          f"lags up to {max(k for k in tally if isinstance(k, int))}")
     print(f'strips of all {test_stored_logs()} small logs put back')
     tally = test_matching_strips()
     print(f"bytes and rows: {tally['logs']} restored, 10: {tally[10]}, 16: {tally[16]}")
@@ -2080,6 +2318,12 @@ def main(arguments):
         for name in arguments[1:]:
             with open(name, 'rb') as file:
                 print(verdict(judge_bytes(file.read())))
+    elif arguments == ['sheet']:
+        sys.stdout.write(sheet_print(sys.stdin.buffer.read()))
+    elif arguments[:1] == ['sheet']:
+        for name in arguments[1:]:
+            with open(name, 'rb') as file:
+                sys.stdout.write(sheet_print(file.read()))
     elif arguments in (['store'], ['restore']):
         made = {'store': store_file, 'restore': restore_file}[arguments[0]](sys.stdin.buffer.read())
         if isinstance(made, int):

@@ -15,7 +15,7 @@ import sys
 
 sys.dont_write_bytecode = True
 
-from model import MAX_ROWS, banded, bytes_of, fresh_register, store_file
+from model import MAX_ROWS, banded, bytes_of, fresh_register, store_file, take_turn
 from verdict_logs import dice
 
 ROWS = MAX_ROWS - 1
@@ -54,12 +54,7 @@ def log(n, readings, turns):
     values = readings(pick)
     register = fresh_register(n, next(values))
     for p in turns(pick, n):
-        if register.open[p] is not None:
-            register.step(p)
-        elif p:
-            register.begin_read(p)
-        else:
-            register.begin_write(next(values))
+        take_turn(register, p, lambda: next(values))
         if register.used == ROWS:
             return register.log[:ROWS]
 

@@ -12,13 +12,15 @@ from pathlib import Path
 
 sys.dont_write_bytecode = True
 
+from bars import bars
 from bench_inputs import EXAMPLE, bench_inputs
 from draw import listed, picture
 from model import (
     MAX_ROWS, NO_STAMP, Counted, Register, bench, bytes_of, judge, listing, log_of, store_file, unpack_cell, unpack_counted)
+from sheet_logs import SHEET_INPUT, expected_sheet, paced_log, sheet_logs
 from soak import soak_lines
 from trials_expected import trials_input, trials_lines
-from verdict_logs import STANDARD_INPUT, expected, verdict_logs
+from verdict_logs import STANDARD_INPUT, dice, expected, verdict_logs
 
 ROOT = Path(__file__).resolve().parent.parent
 
@@ -29,6 +31,15 @@ def judging():
     yield 'stdin', STANDARD_INPUT
     yield 'args', lines_of([*logs, '-'])
     yield 'stdout', lines_of([*(expected(name, log) for name, log in logs.items()), expected('-', STANDARD_INPUT)])
+    yield from (('data/' + name, log) for name, log in logs.items())
+
+
+def adding():
+    """What sheet is run on: its files and, last, its standard input."""
+    logs = sheet_logs()
+    yield 'stdin', SHEET_INPUT
+    yield 'args', lines_of([*logs, '-'])
+    yield 'stdout', ''.join([*(expected_sheet(name, log) for name, log in logs.items()), expected_sheet('-', SHEET_INPUT)]).encode()
     yield from (('data/' + name, log) for name, log in logs.items())
 
 
@@ -56,8 +67,13 @@ SOUNDER_LOGS = {
 }
 
 
+# The course that is an example: turns of the writer, and of four readers, each half as fast as the one before it.
+PACES = (6, 8, 4, 2, 1)
+
+
 def examples():
-    """The print of each example's input, and the picture of one; the logs that are examples, with verdict's line, a picture and their strips."""
+    """The print of each example's input, and the picture of one; the logs that are examples, with verdict's line, a picture and their strips; a
+    course with its sheet and the sheet's picture."""
     for path in sorted((ROOT / 'examples').glob('*.txt')):
         print_ = bench(path.read_bytes())
         yield path.stem + '.out', print_.encode()
@@ -74,6 +90,11 @@ def examples():
         yield name + '.out', line.encode()
         yield name + '.svg', picture(listed(data) + line).encode()
         yield name + '.strips', store_file(data)
+    course = bytes_of(paced_log(dice(10), PACES, 90, 240, 360))
+    print_ = expected_sheet('paces', course)
+    yield 'paces.log', course
+    yield 'paces.out', print_.encode()
+    yield 'paces.svg', bars(print_).encode()
 
 
 def scope(text):
@@ -142,6 +163,7 @@ def lines_of(lines):
 # folder: the files in it that are made here
 FOLDERS = {
     'crates/verdict': judging,
+    'crates/sheet': adding,
     'crates/bench': joining,
     'crates/strips': stripping,
     'crates/trials': lambda: [('stdin', lines_of(trials_input())), ('stdout', lines_of(trials_lines()))],
@@ -166,6 +188,7 @@ def main(arguments):
                 changed = True
                 print('changed:', path.relative_to(ROOT))
                 if not arguments:
+                    path.parent.mkdir(parents=True, exist_ok=True)
                     path.write_bytes(data)
     sys.exit(1 if changed and arguments else 0)
 

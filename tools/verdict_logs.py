@@ -24,6 +24,10 @@ def dice(seed):
     return pick
 
 
+def one_of(pick, things):
+    return things[pick(len(things))]
+
+
 # name, n, start reading, rows
 WRITTEN_LOGS = [
     # Sessions of document 01.

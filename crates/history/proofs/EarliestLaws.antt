@@ -7,13 +7,13 @@ use mathlib.Core.Logic.{_⊎_, inl, inr, _≢_}
 use mathlib.Core.List.{List}
 use Rattle.history.specs.History.{History, Read, Write}
 use Rattle.history.proofs.Placement.{Laws, Placement}
-use Rattle.history.specs.Linearization.{Stands, lastWrite, Linearization}
-use Rattle.history.proofs.LastWrite.{index, index-at, last-write-is, last-write-ge}
+use Rattle.history.specs.Linearization.{Stands, positionIn, lastWrite, standsBehind, Linearization}
+use Rattle.history.proofs.LastWrite.{position-at, last-write-is, last-write-ge}
 use Rattle.history.specs.Sweep.{place}
 use Rattle.history.proofs.Least.{sound, least, complete}
 use Rattle.history.specs.Listing.{build}
 use Rattle.history.proofs.Built.{key, key-write, key-read, key-bound, lex, lex′, behind-has, build-rising, ordered, only, has-read, has-write, last-place, key-by, build-needed}
-use Rattle.history.proofs.FromOrder.{placeIn, placed, rise, mono}
+use Rattle.history.proofs.FromOrder.{placed, rise, mono}
 use Rattle.history.proofs.Unique.{rising-same, rising-of}
 use Rattle.history.specs.Earliest.{Earliest}
 
@@ -25,19 +25,19 @@ module _ (h : History) (L : Laws h) (l : List ℕ) (C : Earliest h l) where
   O = C .order
 
   P : Placement h m (place h)
-  P = sound h L m (complete h L m (placeIn h l) (placed h L m l O))
+  P = sound h L m (complete h L m (standsBehind h l) (placed h L m l O))
 
   B : Linearization h m (build h m (place h) m)
   B = ordered h L m (place h) P
 
   -- A read's place in l is the sweep's.
   placed-at : (i r : ℕ) → Stands l i r → Read h m r → lastWrite h l i ≡ place h r
-  unfolding placeIn
+  unfolding standsBehind
   placed-at i r s x =
       let t = has-read h L m (place h) P r x in
       let u = last-place h L m (place h) P (t .0) r (t .1) x in
-      let e : i ≡ index l r = O .once i (index l r) r s (index-at l i r s) in
-      omega (arith, C .earliest i r s x (build h m (place h) m) B (t .0) (t .1), ap (lastWrite h l) e, least h L m (placeIn h l) (placed h L m l O) r x)
+      let e : i ≡ positionIn l r = O .once i (positionIn l r) r s (position-at l i r s) in
+      omega (arith, C .earliest i r s x (build h m (place h) m) B (t .0) (t .1), ap (lastWrite h l) e, least h L m (standsBehind h l) (placed h L m l O) r x)
 
   -- A write behind place i is later than the lastWrite one before it.
   before : (i j y : ℕ) → Stands l j y → Write h y → i < j
@@ -138,11 +138,11 @@ module _ (h : History) (L : Laws h) (P : Placement h (h .len) (place h)) where
     where
       first : (i r : ℕ) → Stands b i r → Read h (h .len) r → (l′ : List ℕ) → Linearization h (h .len) l′ → (j : ℕ) → Stands l′ j r → lastWrite h b i ≤ lastWrite h l′ j
       first i r s x l′ O j t =
-          let e : j ≡ index l′ r = O .once j (index l′ r) r t (index-at l′ j r t) in
+          let e : j ≡ positionIn l′ r = O .once j (positionIn l′ r) r t (position-at l′ j r t) in
           omega (arith, at-place i r s x, ap (lastWrite h l′) e, least-in l′ O r x)
         where
-          least-in : (l′ : List ℕ) → Linearization h (h .len) l′ → (r : ℕ) → Read h (h .len) r → place h r ≤ lastWrite h l′ (index l′ r)
-          least-in l′ O r x = unfold placeIn in least h L (h .len) (placeIn h l′) (placed h L (h .len) l′ O) r x
+          least-in : (l′ : List ℕ) → Linearization h (h .len) l′ → (r : ℕ) → Read h (h .len) r → place h r ≤ lastWrite h l′ (positionIn l′ r)
+          least-in l′ O r x = unfold standsBehind in least h L (h .len) (standsBehind h l′) (placed h L (h .len) l′ O) r x
 
       some : (i w : ℕ) → Stands b i w → Write h w → h .len ≤ h .end w → (h .end w < h .len) ⊎ ((r : ℕ) × Read h (h .len) r × (place h r ≡ w))
           → (j r : ℕ) × Stands b j r × Read h (h .len) r × (lastWrite h b j ≡ w)

@@ -1,4 +1,4 @@
--- An order gives a placement: each read behind the lastWrite write before it.
+-- An order gives a placement: each read behind the last write before it.
 use Prim.Native.Nat.{ℕ, _≤_, _<_}
 use native.Mathlib.Omega.{arith}
 use native.Mathlib.Decide.{ℕ-discrete, decLt}
@@ -8,16 +8,12 @@ use mathlib.Core.List.{List}
 use lib.ListN.{length}
 use Rattle.history.specs.History.{History, Read}
 use Rattle.history.proofs.Placement.{Laws, Placement}
-use Rattle.history.specs.Linearization.{Stands, lastWrite, Linearization}
-use Rattle.history.proofs.LastWrite.{index, index-at, last-write-is, last-write-ge}
-
--- The place of a read in the order l.
-unfoldable pub placeIn : History → List ℕ → ℕ → ℕ
-placeIn h l r = lastWrite h l (index l r)
+use Rattle.history.specs.Linearization.{Stands, positionIn, lastWrite, standsBehind, Linearization}
+use Rattle.history.proofs.LastWrite.{position-at, last-write-is, last-write-ge}
 
 module _ (h : History) (L : Laws h) (m : ℕ) (l : List ℕ) (O : Linearization h m l) where
-  at : (r : ℕ) → Read h m r → Stands l (index l r) r
-  at r x = let s = O .reads r x in index-at l (s .0) r (s .1)
+  at : (r : ℕ) → Read h m r → Stands l (positionIn l r) r
+  at r x = let s = O .reads r x in position-at l (s .0) r (s .1)
 
   pub rise : (i j a b : ℕ) → Stands l i a → Stands l j b → h .kind a ≡ 1 → h .kind b ≡ 1 → i < j → a ≤ b
   rise i j a b s t x y c = go (decLt b a)
@@ -59,8 +55,8 @@ module _ (h : History) (L : Laws h) (m : ℕ) (l : List ℕ) (O : Linearization 
       go (inl e) = omega arith
       go (inr t) = last-write-ge h l rise j (t .0) (lastWrite h l i) (omega arith) (omega arith) (t .2) (t .3)
 
-  pub placed : Placement h m (placeIn h l)
-  unfolding placeIn
+  pub placed : Placement h m (standsBehind h l)
+  unfolding standsBehind
   placed = record {
     source = λ r x. source _ (omega (arith, at r x));
     suits = λ r x. O .reading _ r (at r x) x;

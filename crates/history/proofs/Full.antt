@@ -12,19 +12,19 @@ use lib.Seq.{getD-append-seam}
 use Rattle.words.proofs.Laws.Choice.{eq→T, and-T, T-left, T-right}
 use Rattle.history.specs.Search.{first}
 use Rattle.history.specs.History.{History, Write, Read}
-use Rattle.history.specs.Linearization.{Stands, lastWrite, Linearization, FullOrder}
+use Rattle.history.specs.Linearization.{Stands, positionIn, lastWrite, Linearization, FullOrder}
 use Rattle.history.proofs.Search.{first-passes, first-least}
 use Rattle.history.proofs.Rising.{stands-left, stands-right}
-use Rattle.history.proofs.LastWrite.{index, index-at}
+use Rattle.history.proofs.LastWrite.{position-at}
 use Rattle.history.proofs.Placement.{Laws}
 
 -- whether x stands in l
 among : (l : List ℕ) (x : ℕ) → Dec ((i : ℕ) × Stands l i x)
-among l x = elim (decLt (index l x) (length l)) [
-  | no a ↦ no (λ t. a (index-at l (t .0) x (t .1) .within))
-  | yes a ↦ elim (ℕ-discrete (getD l (index l x) 0) x) [
-    | no b ↦ no (λ t. b (index-at l (t .0) x (t .1) .there))
-    | yes b ↦ yes (index l x, record { within = a; there = b })
+among l x = elim (decLt (positionIn l x) (length l)) [
+  | no a ↦ no (λ t. a (position-at l (t .0) x (t .1) .within))
+  | yes a ↦ elim (ℕ-discrete (getD l (positionIn l x) 0) x) [
+    | no b ↦ no (λ t. b (position-at l (t .0) x (t .1) .there))
+    | yes b ↦ yes (positionIn l x, record { within = a; there = b })
   ]
 ]
 

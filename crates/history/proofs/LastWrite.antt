@@ -1,4 +1,4 @@
--- The lastWrite write among the first entries of a list.
+-- The last write among the first entries of a list.
 use Prim.Native.Nat.{ℕ, suc, zero, _≤_, _<_}
 use native.Mathlib.Omega.{arith}
 use native.Mathlib.Decide.{ℕ-discrete}
@@ -9,24 +9,18 @@ use mathlib.Core.List.{List, [], _∷_}
 use lib.Dec.{T, T-not, eqb, eqb→eq}
 use lib.ListN.{length, getD}
 use Rattle.history.specs.History.{History}
-use Rattle.words.specs.Choice.{pick}
 use Rattle.words.proofs.Laws.Choice.{pick-T, eq→T}
-use Rattle.history.specs.Linearization.{Stands, lastWrite}
+use Rattle.history.specs.Linearization.{Stands, positionIn, lastWrite}
 
--- The place of x in l.
-unfoldable pub index : List ℕ → ℕ → ℕ
-index [] x = 0
-index (y ∷ l) x = pick (eqb y x) 0 (suc (index l x))
-
-pub index-at : (l : List ℕ) (i x : ℕ) → Stands l i x → Stands l (index l x) x
-unfolding index
-index-at [] i x s = absurd (omega arith)
-index-at (y ∷ l) zero x s =
+pub position-at : (l : List ℕ) (i x : ℕ) → Stands l i x → Stands l (positionIn l x) x
+unfolding positionIn
+position-at [] i x s = absurd (omega arith)
+position-at (y ∷ l) zero x s =
     pick-T (λ z. Stands (y ∷ l) z x) (eqb y x) (λ _. s) (λ f. absurd (T-not (eqb y x) f (eq→T y x (s .there))))
-index-at (y ∷ l) (suc i) x s =
+position-at (y ∷ l) (suc i) x s =
     pick-T (λ z. Stands (y ∷ l) z x) (eqb y x)
     (λ t. record { within = omega arith; there = eqb→eq _ _ t })
-    (λ _. let k = index-at l i x (record { within = omega arith; there = s .there }) in record { within = omega arith; there = k .there })
+    (λ _. let k = position-at l i x (record { within = omega arith; there = s .there }) in record { within = omega arith; there = k .there })
 
 module _ (h : History) (l : List ℕ) where
   -- It is row 0 or a write that stands there.

@@ -11,13 +11,13 @@ use lib.ListN.{getD}
 use borrow.Author.Tests.{ne-eqb}
 use Rattle.words.specs.Choice.{pick}
 use Rattle.history.specs.History.{History, Read, Precedes}
-use Rattle.history.specs.Linearization.{Stands, Linearization, FullOrder}
+use Rattle.history.specs.Linearization.{Stands, positionIn, standsBehind, Linearization, FullOrder}
 use Rattle.history.specs.Instants.{unit, Instants}
 use Rattle.history.specs.ReadsFrom.{AnyWrite, Action}
 use Rattle.history.specs.Shrinking.{Shrinking, Serial, Consistent, AtomicRun}
 use Rattle.history.proofs.Placement.{Laws, Placement}
-use Rattle.history.proofs.LastWrite.{index, index-at, last-write-is, last-write-ge}
-use Rattle.history.proofs.FromOrder.{placeIn, rise, placed}
+use Rattle.history.proofs.LastWrite.{position-at, last-write-is, last-write-ge}
+use Rattle.history.proofs.FromOrder.{rise, placed}
 use Rattle.history.proofs.Regular.{spans, read-real}
 use Rattle.history.proofs.Instants.{instantOf, order-instants}
 
@@ -90,7 +90,7 @@ module _ (h : History) (L : Laws h) (l : List ℕ) (F : FullOrder h l) where
 
   -- the start's instant, and that of an operation's place in l
   timeOf : ℕ → ℕ
-  timeOf a = pick (eqb a 0) 0 (instantOf l (index l a))
+  timeOf a = pick (eqb a 0) 0 (instantOf l (positionIn l a))
 
   time-start : timeOf 0 ≡ 0
   unfolding timeOf
@@ -99,12 +99,12 @@ module _ (h : History) (L : Laws h) (l : List ℕ) (F : FullOrder h l) where
   -- a stands in l
   record Listed (a : ℕ) : Type 0 where
     real : zero < a
-    there : Stands l (index l a) a
-    time : timeOf a ≡ instantOf l (index l a)
+    there : Stands l (positionIn l a) a
+    time : timeOf a ≡ instantOf l (positionIn l a)
 
   listed : (a : ℕ) → zero < a → (i : ℕ) → Stands l i a → Listed a
   unfolding timeOf
-  listed a p i s = record { real = p; there = index-at l i a s; time = rw (ne-eqb a 0 (λ e. omega arith)) }
+  listed a p i s = record { real = p; there = position-at l i a s; time = rw (ne-eqb a 0 (λ e. omega arith)) }
 
   of-read : (r : ℕ) → Read h (h .len) r → Listed r
   of-read r x = let t = O .reads r x in listed r (read-real h L r x) (t .0) (t .1)
@@ -122,23 +122,23 @@ module _ (h : History) (L : Laws h) (l : List ℕ) (F : FullOrder h l) where
 
   later-than-begin : (a : ℕ) → (a ≡ 0) ⊎ Listed a → a * unit l ≤ timeOf a
   later-than-begin a (inl e) = rw (e, time-start) (omega arith)
-  later-than-begin a (inr x) = omega (arith, x .time, I .after (index l a) a (x .there))
+  later-than-begin a (inr x) = omega (arith, x .time, I .after (positionIn l a) a (x .there))
 
   after-start : (a : ℕ) → Listed a → timeOf 0 < timeOf a
-  after-start a x = omega (arith, time-start, x .time, I .after (index l a) a (x .there))
+  after-start a x = omega (arith, time-start, x .time, I .after (positionIn l a) a (x .there))
 
   -- What stands earlier in l has the earlier time.
-  rises : (a b : ℕ) → Listed a → Listed b → index l a < index l b → timeOf a < timeOf b
-  rises a b x y c = omega (arith, x .time, y .time, I .rising (index l a) (index l b) c (y .there .within))
+  rises : (a b : ℕ) → Listed a → Listed b → positionIn l a < positionIn l b → timeOf a < timeOf b
+  rises a b x y c = omega (arith, x .time, y .time, I .rising (positionIn l a) (positionIn l b) c (y .there .within))
 
   -- No two have one place.
-  ordered : (a b : ℕ) → Listed a → Listed b → a ≢ b → (index l a < index l b) ⊎ (index l b < index l a)
-  ordered a b x y n = elim (decLt (index l a) (index l b)) [
+  ordered : (a b : ℕ) → Listed a → Listed b → a ≢ b → (positionIn l a < positionIn l b) ⊎ (positionIn l b < positionIn l a)
+  ordered a b x y n = elim (decLt (positionIn l a) (positionIn l b)) [
     | yes c ↦ inl c
-    | no c ↦ elim (decLt (index l b) (index l a)) [ yes d ↦ inr d | no d ↦ absurd (n (same (omega arith))) ]
+    | no c ↦ elim (decLt (positionIn l b) (positionIn l a)) [ yes d ↦ inr d | no d ↦ absurd (n (same (omega arith))) ]
   ]
     where
-      same : index l a ≡ index l b → a ≡ b
+      same : positionIn l a ≡ positionIn l b → a ≡ b
       same e = sym (x .there .there) ∙ ap (λ i. getD l i 0) e ∙ y .there .there
 
   apart : (a b : ℕ) → (a ≡ 0) ⊎ Listed a → (b ≡ 0) ⊎ Listed b → a ≢ b → timeOf a ≢ timeOf b
@@ -150,22 +150,22 @@ module _ (h : History) (L : Laws h) (l : List ℕ) (F : FullOrder h l) where
     | inr c ↦ omega (arith, rises b a y x c)
   ]
 
-  P : Placement h (h .len) (placeIn h l)
+  P : Placement h (h .len) (standsBehind h l)
   P = placed h L (h .len) l O
 
   -- the write that a read stands behind
   abbrev from : ℕ → ℕ
-  from r = placeIn h l r
+  from r = standsBehind h l r
 
   -- It stands before the read, or is the start.
-  behind : (r : ℕ) → Read h (h .len) r → (from r ≡ 0) ⊎ (Listed (from r) × (index l (from r) < index l r))
-  unfolding placeIn
+  behind : (r : ℕ) → Read h (h .len) r → (from r ≡ 0) ⊎ (Listed (from r) × (positionIn l (from r) < positionIn l r))
+  unfolding standsBehind
   behind r x = elim (decLt 0 (from r)) [
-    | yes p ↦ elim (last-write-is h l (index l r) (omega (arith, of-read r x .there .within))) [
+    | yes p ↦ elim (last-write-is h l (positionIn l r) (omega (arith, of-read r x .there .within))) [
       | inl e ↦ inl e
       | inr t ↦
           let y = listed (from r) p (t .0) (t .2) in
-          inr (y, omega (arith, O .once (index l (from r)) (t .0) (from r) (y .there) (t .2)))
+          inr (y, omega (arith, O .once (positionIn l (from r)) (t .0) (from r) (y .there) (t .2)))
     ]
     | no p ↦ inl (omega arith)
   ]
@@ -178,10 +178,10 @@ module _ (h : History) (L : Laws h) (l : List ℕ) (F : FullOrder h l) where
 
   -- A write before the read is not later than the one that it stands behind.
   not-later : (r v : ℕ) → Read h (h .len) r → AnyWrite h v → Listed v → timeOf v < timeOf r → v ≤ from r
-  unfolding placeIn
-  not-later r v x e y a = elim (decLt (index l v) (index l r)) [
+  unfolding standsBehind
+  not-later r v x e y a = elim (decLt (positionIn l v) (positionIn l r)) [
     | yes c ↦
-        last-write-ge h l (rise h L (h .len) l O) (index l r) (index l v) v (omega (arith, of-read r x .there .within)) c (y .there) e
+        last-write-ge h l (rise h L (h .len) l O) (positionIn l r) (positionIn l v) v (omega (arith, of-read r x .there .within)) c (y .there) e
     | no c ↦ elim (ordered v r y (of-read r x) (λ q. omega (arith, ap timeOf q))) [
       | inl d ↦ absurd (c d)
       | inr d ↦ absurd (omega (arith, rises r v (of-read r x) y d))
@@ -223,7 +223,7 @@ module _ (h : History) (L : Laws h) (l : List ℕ) (F : FullOrder h l) where
     where
       sooner : (a : ℕ) → (a ≡ 0) ⊎ Listed a → finishOf a ≤ h .end a * (unit l + unit l)
       sooner a (inl e) = rw (e, time-start) (omega arith)
-      sooner a (inr x) = omega (arith, x .time, I .before (index l a) a (x .there))
+      sooner a (inr x) = omega (arith, x .time, I .before (positionIn l a) a (x .there))
 
   is-serial : Serial h startOf finishOf
   unfolding startOf finishOf

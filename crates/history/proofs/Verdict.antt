@@ -7,14 +7,14 @@ use mathlib.Core.List.{List}
 use lib.Dec.{T, leb→le, le→leb}
 use Rattle.history.specs.History.{History, Read}
 use Rattle.history.proofs.Placement.{Laws, Placement}
-use Rattle.history.specs.Linearization.{Linearization}
+use Rattle.history.specs.Linearization.{standsBehind, Linearization}
 use Rattle.words.proofs.Laws.Choice.{and-T, T-left, T-right}
 use Rattle.history.proofs.Search.{first-le, first-passes, first-least}
 use Rattle.history.specs.Sweep.{place, isRead, fails, missing}
 use Rattle.history.proofs.Least.{Found, sound, least, complete}
 use Rattle.history.specs.Listing.{build}
 use Rattle.history.proofs.Built.{read→, →read, ordered}
-use Rattle.history.proofs.FromOrder.{placeIn, placed}
+use Rattle.history.proofs.FromOrder.{placed}
 
 module _ (h : History) (L : Laws h) where
   pub found : (m : ℕ) → m ≤ missing h → Found h L m
@@ -52,11 +52,11 @@ module _ (h : History) (L : Laws h) where
 
   -- With it there is none.
   pub none-with : (m : ℕ) (l : List ℕ) → missing h < h .len → missing h < m → Linearization h m l → ⊥
-  none-with m l a b O = no-place m (placeIn h l) a b (placed h L m l O)
+  none-with m l a b O = no-place m (standsBehind h l) a b (placed h L m l O)
 
   -- Each read stands behind the earliest write that any order gives it.
-  pub earliest : (l : List ℕ) → Linearization h (h .len) l → (r : ℕ) → Read h (h .len) r → place h r ≤ placeIn h l r
-  earliest l O = least h L (h .len) (placeIn h l) (placed h L (h .len) l O)
+  pub earliest : (l : List ℕ) → Linearization h (h .len) l → (r : ℕ) → Read h (h .len) r → place h r ≤ standsBehind h l r
+  earliest l O = least h L (h .len) (standsBehind h l) (placed h L (h .len) l O)
 
   pub has-order : (l : List ℕ) → Linearization h (h .len) l → missing h ≡ h .len
   has-order l O = go (decLt (missing h) (h .len))

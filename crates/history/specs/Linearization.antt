@@ -2,7 +2,7 @@
 use Prim.Native.Nat.{ℕ, suc, zero, _≤_, _<_}
 use mathlib.Core.Path.{_≡_}
 use mathlib.Core.Logic.{_⊎_}
-use mathlib.Core.List.{List}
+use mathlib.Core.List.{List, [], _∷_}
 use lib.Dec.{eqb}
 use lib.ListN.{length, getD}
 use Rattle.words.specs.Choice.{pick}
@@ -13,10 +13,19 @@ pub record Stands (l : List ℕ) (i x : ℕ) : Type 0 where
   pub within : i < length l
   pub there : getD l i 0 ≡ x
 
+-- the place at which x stands in l; the length of l if it stands nowhere
+unfoldable pub positionIn : List ℕ → ℕ → ℕ
+positionIn [] x = 0
+positionIn (y ∷ l) x = pick (eqb y x) 0 (suc (positionIn l x))
+
 -- the last write among the first i of l; the start, row 0, if there is none
 unfoldable pub lastWrite : History → List ℕ → ℕ → ℕ
 lastWrite h l zero = 0
 lastWrite h l (suc i) = pick (eqb (h .kind (getD l i 0)) 1) (getD l i 0) (lastWrite h l i)
+
+-- the write that x stands behind in the order l, or the start
+unfoldable pub standsBehind : History → List ℕ → ℕ → ℕ
+standsBehind h l x = lastWrite h l (positionIn l x)
 
 -- l is an order, of the reads only those begun before row m
 pub record Linearization (h : History) (m : ℕ) (l : List ℕ) : Type 0 where

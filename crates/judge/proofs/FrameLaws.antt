@@ -6,12 +6,12 @@ use mathlib.Core.Path.{_≡_, refl}
 use mathlib.Core.Bool.{Bool, true, false, _||_}
 use mathlib.Core.List.{List, [], _∷_, _++_}
 use lib.Dec.{T, leb, leb→le}
-use mir.Syntax.{Ty, tyInt, tyRef, tyArray, tyStruct, tnil, tcons, w64, mut, Lifetime, Sym, Step, deref, field, place, Rv, assign, Home, Local, local, Fn}
+use mir.Syntax.{Ty, tyInt, tyRef, tyArray, tyStruct, tnil, tcons, w64, mut, Lifetime, Sym, Step, deref, field, place, Rv, assign, Home, Name, Local, local, Fn}
 use Rattle.words.proofs.Laws.Choice.{T-left, T-right}
-use Rattle.judge.specs.Frame.{numbers, few, calls, writes, acts, staysInside, KeepsLittle, mutable, anyMutable}
+use Rattle.judge.specs.Frame.{numbers, few, calls, writes, acts, ofRows, staysInside, KeepsLittleAmong, mutable, anyMutable}
 
 -- "no array of more than 64 elements", of whatever holds a number, wherever it stands among the locals
-pub no-larger-array : (f : Fn) → KeepsLittle f → (ls ls′ : List Local) (t : Ty) (n : ℕ) (h : Home)
+pub no-larger-array : {names : List Name} (f : Fn) → KeepsLittleAmong names f → (ls ls′ : List Local) (t : Ty) (n : ℕ) (h : Home)
     → f .locals ≡ ls ++ (local (tyArray t n) h ∷ ls′) → 1 ≤ numbers t → n ≤ 64
 no-larger-array f K ls ls′ t n h e a = go ls (rw e at (K .small))
   where
@@ -25,7 +25,7 @@ pub store-seen : (k i : ℕ) (t : Ty) (ss : List Step) (v : Rv)
 store-seen k i t ss v = (refl, refl)
 
 -- the byte judge, which keeps 4,096 rows, is not of the judge of rows
-pub byte-judge-outside : staysInside (calls "judge::bytes::judge_bytes" ∷ []) ≡ false
+pub byte-judge-outside : staysInside ofRows (calls "judge::bytes::judge_bytes" ∷ []) ≡ false
 byte-judge-outside = refl
 
 -- lent places, `&mut [u64]`, are a reference and their number: they are seen wherever they stand among the locals

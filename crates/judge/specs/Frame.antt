@@ -116,16 +116,21 @@ abbrev among : List Name → Name → Bool
 among [] f = false
 among (g ∷ gs) f = eqt g f || among gs f
 
-abbrev pub staysInside : List Act → Bool
-staysInside [] = true
-staysInside (calls f ∷ xs) = among ofRows f && staysInside xs
-staysInside (writes ∷ xs) = staysInside xs
+-- no function is called but those of names
+abbrev pub staysInside : List Name → List Act → Bool
+staysInside names [] = true
+staysInside names (calls f ∷ xs) = among names f && staysInside names xs
+staysInside names (writes ∷ xs) = staysInside names xs
+
+-- f keeps no array of more than 64 elements, and calls no function but those of names
+pub record KeepsLittleAmong (names : List Name) (f : Fn) : Type 0 where
+  pub small : T (few (f .locals))
+  pub inside : T (staysInside names (acts (f .body)))
 
 -- "the judge of rows keeps no array of more than 64 elements": each of its functions says so of its code, in its proof file, and that
 -- it calls none but these.
-pub record KeepsLittle (f : Fn) : Type 0 where
-  pub small : T (few (f .locals))
-  pub inside : T (staysInside (acts (f .body)))
+abbrev pub KeepsLittle : Fn → Type 0
+KeepsLittle f = KeepsLittleAmong ofRows f
 
 -- "Settle first that nothing is refused, then write": all that `judge` itself does.
 pub record SettlesFirst (f : Fn) : Type 0 where

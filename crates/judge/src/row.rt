@@ -17,7 +17,7 @@ pub(crate) const HALF: u64 = 0x1_0000;
 pub(crate) const BAND: u64 = 6;
 
 // The writer and up to 16 readers.
-pub(crate) const PROCESSORS: usize = 17;
+pub const PROCESSORS: usize = 17;
 
 // The processor of a row.
 pub fn processor(row: u64) -> usize
@@ -27,7 +27,7 @@ pub fn processor(row: u64) -> usize
 }
 
 // The kind of a row by what it tells: a read's end is 4, with a result or with a band.
-pub(crate) fn kind(row: u64) -> u64
+pub fn kind(row: u64) -> u64
     ensures { λ r. ⌜ r ≡ kindOf row ⌝ }
 {
     let bits = row / KIND % 16;
@@ -60,7 +60,7 @@ pub(crate) fn is_begin(row: u64) -> bool
 }
 
 // The begin row of a processor's open operation after its row k, or 0.
-pub(crate) fn open_after(row: u64, k: usize) -> usize
+pub fn open_after(row: u64, k: usize) -> usize
     ensures { λ r. ⌜ r ≡ openAfter row k ⌝ }
 {
     if is_begin(row) {

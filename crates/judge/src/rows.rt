@@ -60,7 +60,7 @@ fn lacks_room(rows: &[u64], places: usize) -> bool
 
 // Questions 9 to 12, of the rows and the number of places: accepted, with no operation listed yet, if none is answered no.
 // No place is lent here, so that all is settled before one is written.
-fn settle(rows: &[u64], places: usize) -> Verdict
+pub fn settle(rows: &[u64], places: usize) -> Verdict
     ensures { λ r. ⌜ answer r ≡ settledOf (now (rows .entry)) places ⌝ }
 {
     if right_length(rows.len()) {} else {

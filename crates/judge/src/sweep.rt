@@ -46,11 +46,14 @@ fn seek(rows: &[u64], k: usize, lo: usize) -> usize
     q
 }
 
-// What row k raises the floor to: the begin row b of a write that it ends, or the place of a read that it ends, with floor f.
-pub(crate) fn row_place(rows: &[u64], k: usize, b: usize, f: usize) -> usize
-    requires { ⌜ k < length (now rows) ⌝ }
+// What row k raises the floor to: the begin row b of a write that it ends, or the place of a read that it ends, with floor f; 0 if it ends
+// nothing, or if there is no such row.
+pub fn row_place(rows: &[u64], k: usize, b: usize, f: usize) -> usize
     ensures { λ r. ⌜ r ≡ placeRow (now (rows .entry)) k b f ⌝ }
 {
+    if rows.len() <= k {
+        return 0;
+    }
     let told = kind(rows[k]);
     if told == 2 {
         return b;
@@ -62,7 +65,7 @@ pub(crate) fn row_place(rows: &[u64], k: usize, b: usize, f: usize) -> usize
 }
 
 // The floor of a processor's open operation after its row, where the floor there is top and was f.
-pub(crate) fn floor_after(row: u64, f: usize, top: usize) -> usize
+pub fn floor_after(row: u64, f: usize, top: usize) -> usize
     ensures { λ r. ⌜ r ≡ floorAfter row f top ⌝ }
 {
     if is_begin(row) {
@@ -71,7 +74,8 @@ pub(crate) fn floor_after(row: u64, f: usize, top: usize) -> usize
     f
 }
 
-pub(crate) fn larger(a: usize, b: usize) -> usize
+// The larger of two.
+pub fn larger(a: usize, b: usize) -> usize
     ensures { λ r. ⌜ r ≡ max a b ⌝ }
 {
     if a < b {

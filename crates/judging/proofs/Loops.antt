@@ -1,4 +1,4 @@
--- The locals of the two loops that sweep.
+-- The locals of the loops that sweep.
 use Prim.Native.Nat.{ℕ, _≤_, _<_, _+_, max}
 use native.Mathlib.Omega.{arith}
 use mathlib.Core.Path.{_≡_, sym, ap, _∙_}
@@ -43,7 +43,7 @@ module _ (log : List ℕ) (w : T (wellFormed log)) where
 
       -- what the row raises the floor to, q
       module _ {p q : ℕ} (e : p ≡ processorOf (getD log k 0)) (f : q ≡ placeRow log k (getD bs p 0) (getD fs p 0)) where
-        raised : q ≡ rowPlace log (sweepTo log k) k
+        pub raised : q ≡ rowPlace log (sweepTo log k) k
         raised = f ∙ place-is log k p bs fs e (S .begins) (S .floors)
 
         pub raised-in : q ≤ k

@@ -7,7 +7,7 @@ use lib.ListN.{length}
 use Rattle.history.specs.History.{historyOf}
 use Rattle.history.specs.Sweep.{missing}
 use Rattle.history.specs.Listing.{listing}
-use Rattle.judging.specs.Answer.{Answer, refused, noOrder, accepted, answer, settledOf, answerOf, laid, orderOf, numberOf}
+use Rattle.judging.specs.Answer.{Answer, refused, noOrder, accepted, answer, beginsTo, settledOf, answerOf, laid, orderOf, numberOf}
 use Rattle.judging.specs.Keys.{Put}
 use Rattle.judging.specs.Meaning.{RightLength, Roomy}
 use Rattle.judging.specs.declared.Verdict.{Verdict}
@@ -33,17 +33,25 @@ module _ (log : List ℕ) (n : ℕ) where
   pub none-no : {v : Verdict} {k : ℕ} → answer v ≡ settledOf log n → v ≡ Accepted k → settledOf log n .number ≡ 0
   none-no e a = ap (λ (x : Answer). x .number) (sym e ∙ ap answer a)
 
+-- where there are places enough, it does not matter how many
+pub settled-same : (log : List ℕ) (n m : ℕ) → beginsTo log (length log) ≤ n → beginsTo log (length log) ≤ m → settledOf log n ≡ settledOf log m
+settled-same log n m h i = go (ask log n)
+  where
+    go : Asked log n → settledOf log n ≡ settledOf log m
+    go (no9 a) = settled-is log n (no9 a) ∙ sym (settled-is log m (no9 a))
+    go (no10 r w) = settled-is log n (no10 r w) ∙ sym (settled-is log m (no10 r w))
+    go (no11 F a) = absurd (omega arith)
+    go (no12 F a b) = settled-is log n (no12 F a b) ∙ sym (settled-is log m (no12 F i b))
+    go (none F a b) = settled-is log n (none F a b) ∙ sym (settled-is log m (none F i b))
+
 -- as many places as rows are enough
 pub number-settled : (log : List ℕ) → settledOf log (length log) .number ≡ numberOf log
 unfolding numberOf
-number-settled log = go (ask log (length log))
-  where
-    go : Asked log (length log) → settledOf log (length log) .number ≡ numberOf log
-    go (no9 a) = settled-number log _ (no9 a) ∙ sym (number-is log _ (no9 a))
-    go (no10 r w) = settled-number log _ (no10 r w) ∙ sym (number-is log _ (no10 r w))
-    go (no11 F a) = absurd (omega (arith, begins-few log (length log)))
-    go (no12 F a b) = settled-number log _ (no12 F a b) ∙ sym (number-is log _ (no12 F (omega arith) b))
-    go (none F a b) = settled-number log _ (none F a b) ∙ sym (number-is log _ (none F (omega arith) b))
+number-settled log =
+    let n = beginsTo log (length log) in
+    ap (λ (x : Answer). x .number) (settled-same log (length log) n (begins-few log (length log)) (omega arith))
+    ∙ settled-number log n (ask log n)
+    ∙ sym (number-is log n (ask log n))
 
 -- the order of a log with no question answered no is to be written
 pub record Settled (log o : List ℕ) : Type 0 where

@@ -7,7 +7,7 @@ use mathlib.Core.Path.{_≡_, refl, sym, ap}
 use mathlib.Core.Bool.{true, false}
 use mathlib.Core.List.{List, []}
 use lib.Dec.{T, eqb, leb, ltb, leb→le, ltb→lt, lt→ltb}
-use lib.ListN.{length, getD, set, replicate, length-set, getD-replicate}
+use lib.ListN.{length, getD, set, replicate, length-set, getD-replicate, List·getD-eq-default}
 use lib.Seq.{getD-set-same, getD-set-other}
 use borrow.Author.Tests.{eq-eqb, ne-eqb, le-ltb}
 use Rattle.words.specs.Choice.{pick}
@@ -67,6 +67,11 @@ module _ (log : List ℕ) where
       → placeRow log k (getD bs p 0) (getD fs p 0) ≡ rowPlace log (sweepTo log k) k
   unfolding rowPlace
   place-is k p bs fs e x y = rw (e, x, y)
+
+  -- Where there is no row, nothing is raised.
+  pub place-outside : (k b f : ℕ) → length log ≤ k → 0 ≡ placeRow log k b f
+  unfolding placeRow kindOf
+  place-outside k b f a = rw (List·getD-eq-default log 0 a)
 
   pub keys-one : keysTo log 1 ≡ []
   unfolding keysTo

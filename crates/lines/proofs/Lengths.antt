@@ -27,7 +27,7 @@ digits-to (suc k) n h =
       | no l ↦ rw (decimal-large n (omega arith), length-append (decimal (n / 10)) ((48 + n % 10) ∷ [])) (omega (arith, digits-to k (n / 10) (omega arith)))
     ]
 
-decimal-short : (n : ℕ) → n < 2 ^ 64 → length (decimal n) ≤ 20
+pub decimal-short : (n : ℕ) → n < 2 ^ 64 → length (decimal n) ≤ 20
 unfolding tens
 decimal-short n h = digits-to 19 n (omega arith)
 

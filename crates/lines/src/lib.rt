@@ -29,7 +29,7 @@ pub fn put_text(out: &mut [u8], at: usize, text: &[u8]) -> usize
 }
 
 // The decimal digits of a number.
-fn put_number(out: &mut [u8], at: usize, n: u64) -> usize
+pub fn put_number(out: &mut [u8], at: usize, n: u64) -> usize
     ensures { λ r. ⌜ Puts (decimal n) at (now (out .entry)) (now (out .exit)) r ⌝ }
 {
     if n < 10 {
@@ -40,7 +40,7 @@ fn put_number(out: &mut [u8], at: usize, n: u64) -> usize
 }
 
 // Words and a number, as a line or its end.
-fn put_line(out: &mut [u8], at: usize, words: &[u8], n: u64) -> usize
+pub fn put_line(out: &mut [u8], at: usize, words: &[u8], n: u64) -> usize
     ensures { λ r. ⌜ Puts (lineOf (now (words .entry)) n) at (now (out .entry)) (now (out .exit)) r ⌝ }
 {
     let number = put_text(out, at, words);

@@ -1,25 +1,26 @@
 -- What no session shows, since it takes too many bytes or rows.
-use Prim.Native.Nat.{ℕ, _+_, _*_, _/_, _%_, _≤_, _<_}
+use Prim.Native.Nat.{ℕ, _+_, _*_, _%_, _≤_, _<_}
 use native.Mathlib.Omega.{arith}
 use native.Mathlib.Nat.{mul-le-mul-left}
 use native.Mathlib.Decide.{decLt, ℕ-discrete}
 use mathlib.Core.Path.{_≡_, refl, sym, ap, _∙_}
 use mathlib.Core.Bool.{true, _&&_}
-use mathlib.Core.List.{List, []}
-use lib.Dec.{eqb, leb}
+use mathlib.Core.List.{List}
+use lib.Dec.{leb}
 use lib.ListN.{length, take, length-take}
 use lib.Seq.{take-all}
 use borrow.Author.Tests.{eq-eqb, ne-eqb, leb-true, le-leb}
-use Rattle.words.proofs.Laws.Choice.{pick-yes, pick-ind, eq-ind, left}
+use Rattle.words.proofs.Laws.Choice.{pick-ind, left}
 use Rattle.logbytes.specs.Bytes.{rowsOf, rowsIn}
-use Rattle.logbytes.proofs.Laws.{rows-odd, rows-many, rows-whole}
+use Rattle.judging.specs.Meaning.{RightLength}
 use Rattle.judging.proofs.Asked.{no9, cases-are}
-use Rattle.judging.proofs.ByteLaws.{rows-length}
+use Rattle.judging.proofs.ByteLaws.{rows-length, rows-read}
 use Rattle.common.specs.SetUp.{setUpOf}
 use Rattle.protocol.specs.Rules.{ticketRules}
 use Rattle.fields.specs.Fields.{readersIn, startIn}
 use Rattle.lines.specs.Lines.{badLine, refusedLine}
-use Rattle.printing.specs.Verdict.{verdictLine, verdictPrint}
+use Rattle.printing.specs.Verdict.{verdictLine, fromBytes, verdictPrint}
+use Rattle.printing.specs.Sheet.{sheetText, sheetPrint}
 use Rattle.printing.specs.Print.{lentCells, lentRows, firstLine, goodFirst, registerPrint, mostBytes, benchPrint}
 
 module _ (b : List ℕ) where
@@ -35,31 +36,29 @@ module _ (b : List ℕ) where
   unfolding benchPrint
   all-read h g = rw (le-leb (length b) mostBytes (omega arith), g)
 
+-- What a program prints of a log, where rows of a wrong length are 9.
+module _ (print : List ℕ → List ℕ) (nine : (log : List ℕ) → ¬ RightLength log → print log ≡ refusedLine 9) (b : List ℕ) where
   -- more than 4,096 rows as bytes are 9, whatever their number is
-  pub long-log : 32768 < length b → verdictPrint b ≡ refusedLine 9
-  unfolding verdictPrint verdictLine
+  pub long-log : 32768 < length b → fromBytes print b ≡ refusedLine 9
+  unfolding fromBytes
   long-log h =
       elim (ℕ-discrete (length b % 8) 0) [
-        | yes z ↦ rw (eq-eqb (length b % 8) 0 z) (cases-are (rowsOf b) _ _ _ _ (no9 (λ s. omega (arith, rows-length b, s .few))))
+        | yes z ↦ rw (eq-eqb (length b % 8) 0 z) (nine (rowsOf b) (λ s. omega (arith, rows-length b, s .few)))
         | no n ↦ rw (ne-eqb (length b % 8) 0 n)
       ]
 
--- Bytes that are no log's are judged as no rows.
-no-rows : verdictLine [] ≡ refusedLine 9
-unfolding verdictLine
-no-rows = cases-are [] _ _ _ _ (no9 (λ s. omega (arith, s .some)))
+  pub rows-print : print (rowsIn b 4096) ≡ fromBytes print b
+  unfolding fromBytes
+  rows-print = rows-read print (refusedLine 9) nine b
 
-pub rows-print : (b : List ℕ) → verdictLine (rowsIn b 4096) ≡ verdictPrint b
-unfolding verdictPrint
-rows-print b = eq-ind (λ l. verdictLine (rowsIn b 4096) ≡ l) (length b % 8) 0 _ _
-    (λ e. elim (decLt 4096 (length b / 8)) [
-      | yes h ↦ ap verdictLine (rows-many b 4096 e h) ∙ no-rows ∙ sym (many e h)
-      | no h ↦ ap verdictLine (rows-whole b 4096 e (omega arith))
-    ])
-    (λ n. ap verdictLine (rows-odd b 4096 n) ∙ no-rows)
-  where
-    many : length b % 8 ≡ 0 → 4096 < length b / 8 → verdictLine (rowsOf b) ≡ refusedLine 9
-    many e h = sym (pick-yes (eqb (length b % 8) 0) (verdictLine (rowsOf b)) (refusedLine 9) (eq-eqb (length b % 8) 0 e)) ∙ long-log b (omega arith)
+-- So it is with a verdict, and with a sheet.
+pub verdict-nine : (log : List ℕ) → ¬ RightLength log → verdictLine log ≡ refusedLine 9
+unfolding verdictLine
+verdict-nine log a = cases-are log _ _ _ _ (no9 a)
+
+pub sheet-nine : (log : List ℕ) → ¬ RightLength log → sheetText log ≡ refusedLine 9
+unfolding sheetText
+sheet-nine log a = cases-are log _ _ _ _ (no9 a)
 
 -- So much of an input is all that a program need read: the print is that of the whole.
 pub enough-input : (b : List ℕ) → benchPrint (take 65537 b) ≡ benchPrint b
@@ -69,12 +68,19 @@ enough-input b =
       | no h ↦ ap benchPrint (take-all 65537 b (omega arith))
     ]
 
-pub enough-log : (b : List ℕ) → verdictPrint (take 32769 b) ≡ verdictPrint b
-enough-log b =
+enough-bytes : (print : List ℕ → List ℕ) → ((log : List ℕ) → ¬ RightLength log → print log ≡ refusedLine 9)
+    → (b : List ℕ) → fromBytes print (take 32769 b) ≡ fromBytes print b
+enough-bytes print nine b =
     elim (decLt 32768 (length b)) [
-      | yes h ↦ long-log (take 32769 b) (omega (arith, length-take 32769 b)) ∙ sym (long-log b h)
-      | no h ↦ ap verdictPrint (take-all 32769 b (omega arith))
+      | yes h ↦ long-log print nine (take 32769 b) (omega (arith, length-take 32769 b)) ∙ sym (long-log print nine b h)
+      | no h ↦ ap (fromBytes print) (take-all 32769 b (omega arith))
     ]
+
+pub enough-log : (b : List ℕ) → verdictPrint (take 32769 b) ≡ verdictPrint b
+enough-log b = enough-bytes verdictLine verdict-nine b
+
+pub enough-for-sheet : (b : List ℕ) → sheetPrint (take 32769 b) ≡ sheetPrint b
+enough-for-sheet b = enough-bytes sheetText sheet-nine b
 
 -- The cells suffice for 16 readers.
 pub cells-fit : (n : ℕ) → n ≤ 16 → n * n + n ≤ 272

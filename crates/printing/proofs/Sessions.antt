@@ -14,10 +14,13 @@ use Rattle.history.specs.Search
 use Rattle.history.specs.Rows
 use Rattle.history.specs.WellFormed
 use Rattle.history.specs.History
+use Rattle.history.specs.Linearization
 use Rattle.history.specs.Sweep
 use Rattle.history.specs.Listing
 use Rattle.judging.specs.Fold
 use Rattle.judging.specs.Answer
+use Rattle.lags.specs.Lag
+use Rattle.lags.specs.Sheet as LagSheet
 use Rattle.common.specs.Head
 use Rattle.common.specs.Rules
 use Rattle.common.specs.SetUp
@@ -31,7 +34,9 @@ use Rattle.fields.specs.Fields
 use Rattle.script.specs.Script
 use Rattle.lines.specs.Ascii.{ascii}
 use Rattle.lines.specs.Lines
-use Rattle.printing.specs.Verdict.{verdictLine, verdictPrint}
+use Rattle.printing.specs.Verdict.{verdictLine, fromBytes, verdictPrint}
+use Rattle.printing.specs.Sheet
+use Rattle.printing.specs.Sheet.{sheetPrint}
 use Rattle.printing.specs.Print.{benchPrint, goodFirst, registerPrint, callsPrint, refusalOf, logPrint}
 
 -- a program's print for its input, and what it is to be
@@ -48,6 +53,10 @@ bytes input wanted = record { got = verdictPrint input; wanted = wanted }
 
 abbrev log : List ℕ → String → Session
 log rows wanted = bytes (bytesOf rows) wanted
+
+-- the program `sheet` on bytes
+abbrev sheet : List ℕ → String → Session
+sheet input wanted = record { got = sheetPrint input; wanted = wanted }
 
 -- row 0 of two readers with start reading 7, and rows in the letters of the listing
 abbrev two : List ℕ → List ℕ
@@ -115,8 +124,17 @@ table =
     ∷ bytes [] "refused 9\n"
     ∷ bytes (80 ∷ 16 ∷ 0 ∷ 0 ∷ 0 ∷ 0 ∷ 0 ∷ []) "refused 9\n"
     ∷ bytes (0 ∷ 16 ∷ 0 ∷ 0 ∷ 0 ∷ 0 ∷ 0 ∷ 7 ∷ []) "refused 10\n"
+    -- document 02, card 10: a sheet, one of a log in which nobody looked, and the judge's refusals
+    ∷ sheet (bytesOf (rowOf 5 3 7 ∷ W 5 ∷ R 3 ∷ w ∷ r 3 7 ∷ R 1 ∷ r 1 5 ∷ R 3 ∷ W 6 ∷ w ∷ r 3 5 ∷ []))
+    "reader 1 reads 1 lag 0\nreader 2 reads 0 lag 0\nreader 3 reads 2 lag 2\nall reads 3 lag 2\n"
+    ∷ sheet (bytesOf (rowOf 5 1 7 ∷ [])) "reader 1 reads 0 lag 0\nall reads 0 lag 0\n"
+    ∷ sheet (bytesOf (two (W 5 ∷ R 1 ∷ r 1 5 ∷ R 2 ∷ r 2 7 ∷ []))) "no order 4\n"
+    ∷ sheet (bytesOf (rowOf 5 17 7 ∷ [])) "refused 10\n"
+    ∷ sheet [] "refused 9\n"
+    ∷ sheet (80 ∷ 16 ∷ 0 ∷ 0 ∷ 0 ∷ 0 ∷ 0 ∷ []) "refused 9\n"
+    ∷ sheet (80 ∷ 16 ∷ 0 ∷ 0 ∷ 0 ∷ 0 ∷ 0 ∷ 7 ∷ 0 ∷ []) "refused 9\n"
     ∷ []
 
 pub sessions : map (λ (s : Session). s .got) table ≡ map (λ (s : Session). ascii (s .wanted)) table
-unfolding Cell.packCell Cell.unpackCell Row.packRow Index.index Index.inRow Answer.cases Answer.beginsTo Answer.countAfter Fold.upTo Rows.kindOf Rows.within Rows.suits Rows.begins Rows.kindAt Rows.processorAt Rows.zeroAt Rows.valueAt WellFormed.wellFormed WellFormed.headOk WellFormed.fields WellFormed.openAt WellFormed.alternates WellFormed.rowOk WellFormed.all History.eventAt History.endAt Search.first Sweep.placeAt Sweep.adds Sweep.floors Sweep.floor Sweep.place Sweep.missing Listing.behind Listing.group Listing.build Listing.listing lib.Count.ones lib.Count.onesIn Counting.all Counting.count Tickets.withTicket Tickets.smallestOut Tickets.through Tickets.walkOn Index.other Head.headOk Rules.stateOk SetUp.setUpOf Register.beginWriteOf Register.beginReadOf Register.stepWriter Register.stepReader Register.stepOf Register.callOf Register.runOf State.writerOk State.readerOk Write.ticketOf Write.writeStep Read.attemptStep Read.resultStep Read.readStep TicketRules.freshCells Fields.placeOf Fields.before Fields.readersIn Fields.numberIn Fields.allDigits Fields.valueFrom Fields.startIn Script.kindIn Script.callIn Script.callFrom Script.callsFrom Script.endFrom Lines.decimalIn Lines.decimal Lines.lineOf Lines.field flatMap Lines.orderLine Lines.letterOf Lines.readerText Lines.readingText Lines.rowText Lines.rowLines Lines.readersLine Bytes.readRows Bytes.rowsOf Bytes.bytesOf verdictLine verdictPrint benchPrint goodFirst registerPrint callsPrint refusalOf logPrint
+unfolding Cell.packCell Cell.unpackCell Row.packRow Index.index Index.inRow Answer.cases Answer.beginsTo Answer.countAfter Fold.upTo Rows.kindOf Rows.within Rows.suits Rows.begins Rows.kindAt Rows.processorAt Rows.zeroAt Rows.valueAt WellFormed.wellFormed WellFormed.headOk WellFormed.fields WellFormed.openAt WellFormed.alternates WellFormed.rowOk WellFormed.all History.eventAt History.endAt Search.first Sweep.placeAt Sweep.adds Sweep.floors Sweep.floor Sweep.place Sweep.missing Listing.behind Listing.group Listing.build Listing.listing Linearization.positionIn Linearization.lastWrite Linearization.standsBehind Lag.withWrite Lag.begunBefore Lag.rankOf Lag.lagOf LagSheet.picked LagSheet.readsTo LagSheet.sum LagSheet.readsOf LagSheet.lagsOf LagSheet.overReaders LagSheet.arrayOf LagSheet.linesIn LagSheet.figuresIn lib.Count.ones lib.Count.onesIn Counting.all Counting.count Tickets.withTicket Tickets.smallestOut Tickets.through Tickets.walkOn Index.other Head.headOk Rules.stateOk SetUp.setUpOf Register.beginWriteOf Register.beginReadOf Register.stepWriter Register.stepReader Register.stepOf Register.callOf Register.runOf State.writerOk State.readerOk Write.ticketOf Write.writeStep Read.attemptStep Read.resultStep Read.readStep TicketRules.freshCells Fields.placeOf Fields.before Fields.readersIn Fields.numberIn Fields.allDigits Fields.valueFrom Fields.startIn Script.kindIn Script.callIn Script.callFrom Script.callsFrom Script.endFrom Lines.decimalIn Lines.decimal Lines.lineOf Lines.field flatMap Lines.orderLine Lines.letterOf Lines.readerText Lines.readingText Lines.rowText Lines.rowLines Lines.readersLine Bytes.readRows Bytes.rowsOf Bytes.bytesOf verdictLine fromBytes Sheet.lagEnd Sheet.readerLine Sheet.readerLines Sheet.figuresText Sheet.sheetText benchPrint goodFirst registerPrint callsPrint refusalOf logPrint
 sessions = refl

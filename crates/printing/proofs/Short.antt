@@ -43,12 +43,12 @@ use Rattle.script.proofs.ScriptLaws.{calls-fit}
 use Rattle.lines.specs.Ascii.{ascii}
 use Rattle.lines.specs.Lines.{badLine, refusedLine, noOrderLine, orderLine, readersLine, rowsText}
 use Rattle.lines.proofs.Lengths.{line-short, order-short, readers-short, rows-short}
-use Rattle.printing.specs.Verdict.{verdictLine, verdictPrint}
+use Rattle.printing.specs.Verdict.{verdictLine, fromBytes, verdictPrint}
 use Rattle.printing.specs.Print.{logPrint, refusalOf, secondLine, calls, nextLine, badBehind, callsPrint, lentCells, lentRows, registerPrint, firstLine, goodFirst, mostBytes, benchPrint}
 use Rattle.printing.proofs.Answers.{answer-each, rows-same}
 use Rattle.printing.proofs.Calls.{enough}
 
-refused-short : (k : ℕ) → k < 2 ^ 64 → length (refusedLine k) ≤ 29
+pub refused-short : (k : ℕ) → k < 2 ^ 64 → length (refusedLine k) ≤ 29
 refused-short k h = line-short (ascii "refused ") k h
 
 -- The rows of an order are rows of the log.
@@ -118,11 +118,13 @@ module _ (log : List ℕ) where
   unfolding verdictLine
   verdict-few = rw (cases-are log 4096 refusedLine noOrderLine orderLine (ask log 4096)) (line-few (ask log 4096))
 
+pub from-short : (print : List ℕ → List ℕ) (n : ℕ) → 29 ≤ n → ((log : List ℕ) → length (print log) ≤ n) → (b : List ℕ) → length (fromBytes print b) ≤ n
+unfolding fromBytes
+from-short print n h few b =
+    pick-ind (λ (t : List ℕ). length t ≤ n) (eqb (length b % 8) 0) _ _ (λ _. few (rowsOf b)) (λ _. omega (arith, refused-short 9 (omega arith)))
+
 pub verdict-short : (b : List ℕ) → length (verdictPrint b) ≤ 131072
-unfolding verdictPrint
-verdict-short b =
-    pick-ind (λ (t : List ℕ). length t ≤ 131072) (eqb (length b % 8) 0) _ _ (λ _. omega (arith, verdict-few (rowsOf b)))
-    (λ _. omega (arith, refused-short 9 (omega arith)))
+verdict-short b = from-short verdictLine 131072 (omega arith) (λ log. omega (arith, verdict-few log)) b
 
 -- The refusals.
 refusal-low : (r : Refusal) → refusalNumber r ≤ 14

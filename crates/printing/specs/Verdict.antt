@@ -1,4 +1,4 @@
--- The line of the judge's verdict.
+-- The line of the judge's verdict, and what is printed of a log as bytes.
 use Prim.Native.Nat.{ℕ, _%_}
 use mathlib.Core.List.{List}
 use lib.Dec.{eqb}
@@ -13,6 +13,10 @@ use Rattle.lines.specs.Lines.{refusedLine, noOrderLine, orderLine}
 unfoldable pub verdictLine : List ℕ → List ℕ
 verdictLine rows = cases rows 4096 refusedLine noOrderLine orderLine
 
--- the same of "the log as bytes": "a length not a multiple of 8 is 9". It is what the program `verdict` prints for a log.
-unfoldable pub verdictPrint : List ℕ → List ℕ
-verdictPrint bytes = pick (eqb (length bytes % 8) 0) (verdictLine (rowsOf bytes)) (refusedLine 9)
+-- what is printed of a log's rows, for "the log as bytes": "a length not a multiple of 8 is 9"
+unfoldable pub fromBytes : (List ℕ → List ℕ) → List ℕ → List ℕ
+fromBytes print bytes = pick (eqb (length bytes % 8) 0) (print (rowsOf bytes)) (refusedLine 9)
+
+-- What the program `verdict` prints for a log.
+abbrev pub verdictPrint : List ℕ → List ℕ
+verdictPrint bytes = fromBytes verdictLine bytes

@@ -1,4 +1,5 @@
 pub mod Verdicts
+pub mod SheetTexts
 pub mod Texts
 pub mod AnswerWords
 pub mod Runs

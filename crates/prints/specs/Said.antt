@@ -1,6 +1,6 @@
 -- The line of a verdict as the code has it.
 use Prim.Native.Nat.{ℕ, _≤_}
-use mathlib.Core.List.{List}
+use mathlib.Core.List.{List, []}
 use lib.ListN.{length, take}
 use mathlib.Core.Path.{_≡_}
 use Rattle.judging.specs.declared.Verdict.{Verdict}
@@ -15,10 +15,18 @@ Fits Malformed e = Unit {0}
 Fits NoRoom e = Unit {0}
 Fits (NoOrder r) e = Unit {0}
 
--- with the places that it leaves
+-- its line if it is a refusal
+unfoldable pub refusalLine : Verdict → List ℕ
+refusalLine (Accepted n) = []
+refusalLine WrongLength = refusedLine 9
+refusalLine Malformed = refusedLine 10
+refusalLine NoRoom = refusedLine 11
+refusalLine (NoOrder r) = noOrderLine r
+
+-- the line of any verdict, with the places that it leaves
 unfoldable pub saidLine : Verdict → List ℕ → List ℕ
 saidLine (Accepted n) places = orderLine (take n places)
-saidLine WrongLength places = refusedLine 9
-saidLine Malformed places = refusedLine 10
-saidLine NoRoom places = refusedLine 11
-saidLine (NoOrder r) places = noOrderLine r
+saidLine WrongLength places = refusalLine WrongLength
+saidLine Malformed places = refusalLine Malformed
+saidLine NoRoom places = refusalLine NoRoom
+saidLine (NoOrder r) places = refusalLine (NoOrder r)

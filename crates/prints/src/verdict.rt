@@ -8,20 +8,30 @@ ghost use Prim.Native.Nat.{_≤_};
 ghost use lib.ListN.{length, take};
 ghost use Rattle.lines.specs.Lines.{Puts, Within};
 ghost use Rattle.printing.specs.Verdict.{verdictLine, verdictPrint};
-ghost use Rattle.prints.specs.Said.{Fits, saidLine};
+ghost use Rattle.prints.specs.Said.{Fits, refusalLine, saidLine};
+
+// The line of a refusal; nothing for a log that is accepted.
+pub(crate) fn put_refusal(out: &mut [u8], at: usize, verdict: Verdict) -> usize
+    ensures { λ r. ⌜ Puts (refusalLine verdict) at (now (out .entry)) (now (out .exit)) r ⌝ }
+{
+    match verdict {
+        Verdict::Accepted(_) => at,
+        Verdict::WrongLength => put_refused(out, at, 9),
+        Verdict::Malformed => put_refused(out, at, 10),
+        Verdict::NoRoom => put_refused(out, at, 11),
+        Verdict::NoOrder(row) => put_no_order(out, at, row as u64),
+    }
+}
 
 // The line of a verdict, with the places that it leaves.
 fn put_said(out: &mut [u8], at: usize, verdict: Verdict, places: &[u64]) -> usize
     requires { ⌜ Fits verdict (now places) ⌝ }
     ensures { λ r. ⌜ Puts (saidLine verdict (now (places .entry))) at (now (out .entry)) (now (out .exit)) r ⌝ }
 {
-    match verdict {
-        Verdict::Accepted(n) => put_order(out, at, &places[..n]),
-        Verdict::WrongLength => put_refused(out, at, 9),
-        Verdict::Malformed => put_refused(out, at, 10),
-        Verdict::NoRoom => put_refused(out, at, 11),
-        Verdict::NoOrder(row) => put_no_order(out, at, row as u64),
+    if let Verdict::Accepted(n) = verdict {
+        return put_order(out, at, &places[..n]);
     }
+    put_refusal(out, at, verdict)
 }
 
 // What the judge says of a log's rows. There are places for every order.

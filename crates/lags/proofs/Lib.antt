@@ -1,0 +1,13 @@
+pub mod Counting
+pub mod Arrays
+pub mod Picked
+pub mod Writes
+pub mod Behind
+pub mod Summed
+pub mod Totals
+pub mod PerReader
+pub mod Meaning
+pub mod Exact
+pub mod Sessions
+pub mod Filling
+pub mod Figured

@@ -1,0 +1,3 @@
+pub mod Lag
+pub mod Sheet
+pub mod Meaning
