@@ -1,11 +1,12 @@
 #!/usr/bin/env bash
 # What C can call, against the outside model: the judge on random logs, then both registers on random lists of calls, then logs stored in
-# strips; last, the program that makes course sheets: host.sh [LOGS [LISTS [STRIPS [SHEETS]]]]. Not part of the gate.
+# strips; last, the programs that make course sheets and drills: host.sh [LOGS [LISTS [STRIPS [SHEETS [DRILLS]]]]]. Not part of the gate.
 . "$(dirname "$0")/build.sh"
 count=${1:-2000}
 lists=${2:-4000}
 strips=${3:-3000}
 sheets=${4:-2000}
+drills=${5:-300}
 mkdir "$out/logs"
 
 built examples/host.c judge
@@ -18,3 +19,4 @@ echo "$count logs: C and the model agree ($(sort "$out/given" | uniq -c | awk '{
 tests/registers.sh "$lists"
 tests/strips.sh "$strips"
 tests/sheets.sh "$sheets"
+tests/drills.sh "$drills"

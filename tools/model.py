@@ -1,9 +1,10 @@
 #!/usr/bin/env python3
 """Outside model of the arrow register and its judge, written from document 01 alone, and from
 document 02 for the requests that have landed (cards 1, 2, 3, 5 and 6; card 9, with its report
-CS-R8704; cards 10, 12 and 13; card 4 changes nothing that is told here).
+CS-R8704; cards 10 to 13; card 4 changes nothing that is told here).
 
     model.py bench              text on standard input, the bench's print on standard output
+    model.py drill              a line on standard input, a line for each schedule of that drill
     model.py verdict            one line for the log whose bytes are on standard input
     model.py verdict FILE...    one line for each log file
     model.py sheet              the course sheet of the log whose bytes are on standard input
@@ -13,8 +14,9 @@ CS-R8704; cards 10, 12 and 13; card 4 changes nothing that is told here).
     model.py selftest           the sessions of document 01, lists of calls of both registers,
                                 brute force against the sweep, the two definitions of card 9
                                 on every log of a few rows, with the bands of card 13 and without,
-                                the sheets of card 10 on these, added in two ways, and the strips
-                                of card 12 on every log and list of a few rows
+                                the sheets of card 10 on these, added in two ways, the strips
+                                of card 12 on every log and list of a few rows, and the drills
+                                of card 11, their schedules and lines told in two ways
 
 The sections stand in the order of document 01, the buyer's scope. Quoted words are its
 own, or document 02's or the report's where that is said; “Open:” marks a choice where it
@@ -27,7 +29,9 @@ import sys
 from bisect import bisect_left
 from collections import Counter, namedtuple
 from dataclasses import dataclass, field, replace
+from functools import cache
 from itertools import chain, count, product
+from math import comb
 
 MAX_READERS = 16
 MAX_ROWS = 4096
@@ -1010,11 +1014,15 @@ def number_of(digits):
     return int(digits) if len(digits) <= 10 and int(digits) < 1 << 32 else None
 
 
-def first_line(line):
-    """n and the start reading, or None."""
-    match = FIRST_LINE.fullmatch(line)
+def numbers_of(match):
+    """The numbers of a line that was matched, or None if it was not, or if one is too large."""
     numbers = match and tuple(map(number_of, match.groups()))
     return numbers if numbers and None not in numbers else None
+
+
+def first_line(line):
+    """n and the start reading, or None."""
+    return numbers_of(FIRST_LINE.fullmatch(line))
 
 
 def call_line(line):
@@ -1060,6 +1068,78 @@ def bench_lines(data):
 def bench(data):
     """The bench's whole print for the bytes of its input."""
     return ''.join(line + '\n' for line in bench_lines(data))
+
+
+# ---------------------------------------------------------------------------- Drills
+# Document 02, card 11, quoted here.
+
+MAX_TURNS = 16
+DRILL_ROWS = 5  # Open: row 0, and a begin and an end of either operation
+DRILL_INPUT = re.compile(rb' '.join([rb'([0-9]+)'] * 5) + rb'\n')
+
+
+def after_writer(a, b):
+    """“What may follow a writer's turn” while a turns of the writer and b of the reader are left:
+    some more of them, “in dictionary order” the most first, and then one of the reader's."""
+    if b == 0:
+        return ['w' * a]
+    return ['w' * k + 'r' + rest for k in range(a, -1, -1) for rest in after_reader(a - k, b - 1)]
+
+
+def after_reader(a, b):
+    """“what may follow a reader's turn”: some more of them, the fewest first, and then one of the
+    writer's."""
+    if a == 0:
+        return ['r' * b]
+    return ['r' * k + 'w' + rest for k in range(b + 1) for rest in after_writer(a - 1, b - k)]
+
+
+def schedules(a, b):
+    """“all schedules of a writer's a turns and reader 1's b turns, …, each just one time, in
+    dictionary order with the writer first”. Either may begin, as either may follow any turn."""
+    return after_writer(a, b)
+
+
+def run_turns(n, start, v, turns):
+    """“takes a fresh register, begins a write of v and then a read, runs the turns”: these “as w
+    and r, a refused one as a capital”, and the log."""
+    register = Register()
+    register.set_up(n, start, [0] * cells_of(n), [0] * DRILL_ROWS)
+    register.begin_write(v)
+    register.begin_read(1)
+    shown = ''
+    for turn in turns:
+        answer = register.step('wr'.index(turn))
+        shown += turn.upper() if answer[0] == 'refused' else turn
+    return shown, register.log[:register.used]
+
+
+def drill_input(data):
+    """“The input line gives n, start, v, a and b”: these, or None for “a bad input line, input
+    after it, or a+b not 1 to 16”. Open: a line as on the bench, and no longer."""
+    numbers = numbers_of(DRILL_INPUT.fullmatch(data)) if len(data) <= MAX_INPUT else None
+    return numbers if numbers and 1 <= sum(numbers[3:]) <= MAX_TURNS else None
+
+
+def drill_lines(data):
+    """What drill prints: “`bad line 1`, then n not 1 to 16 `refused 1`, and no more”; else a line
+    for each schedule."""
+    numbers = drill_input(data)
+    if numbers is None:
+        yield 'bad line 1'
+        return
+    n, start, v, a, b = numbers
+    if not 1 <= n <= MAX_READERS:
+        yield 'refused 1'
+        return
+    for turns in schedules(a, b):
+        shown, rows = run_turns(n, start, v, turns)
+        yield f'{shown} {verdict(judge(rows))}'
+
+
+def drill(data):
+    """The whole print of drill for the bytes of its input."""
+    return ''.join(line + '\n' for line in drill_lines(data))
 
 
 # ---------------------------------------------------------------------------- Sessions
@@ -1917,6 +1997,168 @@ def test_bench():
         equal(bench(data), print_, f'bench of {data[:40]!r}')
 
 
+# Card 11, by hand: inputs and prints.
+DRILL_SESSIONS = [
+    (b'1 7 9 1 1\n', 'wr order\nrw order\n'),
+    (b'01 007 0009 1 0000000000000001\n', 'wr order\nrw order\n'),
+    (b'1 7 9 1 0\n', 'w order\n'),
+    (b'16 7 9 0 1\n', 'r order\n'),
+    (b'1 7 9 3 0\n', 'wwW order 1\n'),
+    (b'1 7 9 0 6\n', 'rrrrrR order 2\n'),
+    (b'1 7 9 2 1\n', 'wwr order 1\nwrw order 1\nrww order 1\n'),
+    (b'1 7 9 2 2\n', 'wwrr order 1\nwrwr order 1\nwrrw order 1\nrwwr order 1\nrwrw order 1\n'
+                     'rrww order 1\n'),
+    (b'1 7 9 1 5\n', 'wrrrrr order 2\nrwrrrr order 2\nrrwrrr order 2\nrrrwrr order 2\n'
+                     'rrrrwr order 2\nrrrrrw order 2\n'),
+    (b'1 7 9 16 0\n', 'ww' + 'W' * 14 + ' order 1\n'),
+    (b'16 4294967295 0 0 16\n', 'r' * 16 + ' order\n'),
+    (b'1 ' + b'0' * 65526 + b'7 9 1 0\n', 'w order\n'),  # 65,536 bytes
+    (b'0 7 9 1 1\n', 'refused 1\n'),
+    (b'17 7 9 8 8\n', 'refused 1\n'),
+    (b'4294967295 7 9 0 16\n', 'refused 1\n'),
+]
+
+# Inputs that are `bad line 1`: no line, or one of other fields;
+BAD_DRILLS = [
+    b'', b'\n', b'1 7 9 1 1', b'1 7\n', b'1 7 9 1\n', b'1 7 9 1 \n', b'1 7 9 1 1 1\n',
+    b'1  7 9 1 1\n', b'1 7 9 1  1\n', b' 1 7 9 1 1\n', b'1 7 9 1 1 \n', b'1 7 9 1 1\r\n',
+    b'1\t7 9 1 1\n', b'1 +7 9 1 1\n', b'-1 7 9 1 1\n', b'1 7 9 1 0x1\n', b'1 7 9 /1 1\n',
+    b'1 7 9 :1 1\n', b'1\n7 9 1 1\n', b'1,7,9,1,1\n', b'1 7 9 1 1\0\n', b'w 7 9 1 1\n',
+    # numbers of 33 bits, of which the lower 32 would do, and one of many digits;
+    b'4294967297 7 9 1 1\n', b'1 4294967303 9 1 1\n', b'1 7 4294967305 1 1\n',
+    b'1 7 9 4294967297 1\n', b'1 7 9 1 4294967297\n', b'1 7 9 4294967296 1\n',
+    b'1 18446744073709551623 9 1 1\n',
+    # input after it;
+    b'1 7 9 1 1\n\n', b'1 7 9 1 1\n1 7 9 1 1\n', b'1 7 9 1 1\n1', b'1 7 9 1 1\n\0',
+    b'\n1 7 9 1 1\n', b'1 7 9 1 1\n ', b'1 7\nW 9\nS 0\n',
+    # turns not 1 to 16, and sums that would be if they were kept in 32 bits;
+    b'1 7 9 0 0\n', b'1 7 9 17 0\n', b'1 7 9 0 17\n', b'1 7 9 8 9\n', b'1 7 9 16 1\n',
+    b'1 7 9 4294967295 2\n', b'1 7 9 9 4294967295\n', b'1 7 9 2147483648 2147483649\n',
+    b'1 7 9 4294967295 4294967295\n',
+    # 65,537 bytes;
+    b'1 ' + b'0' * 65527 + b'7 9 1 0\n', b'0 ' + b'0' * 65527 + b'7 9 1 0\n',
+    # and such lines with n not 1 to 16.
+    b'0 7 9 8 9\n', b'17 7 9 0 0\n', b'17 7 9 1 1', b'0 7 9 1 1\n0 7 9 1 1\n', b'0 7 9 1 1\n\n',
+    b'0 7 9 1\n', b'4294967295 7 9 1 4294967296\n',
+]
+
+# n, start, v, the turns as they are shown, and the rows: the read before the write, behind it and
+# overtaken, which is a session of document 01; a write half way, of two readers.
+TURN_SESSIONS = [
+    (1, 7, 9, 'rrrrrRwwW', 'W 9, R 1, r 1 7, w'), (1, 7, 9, 'wwWrrrrrR', 'W 9, R 1, w, r 1 9'),
+    (1, 7, 9, 'rwwrrrrrrrrR', 'W 9, R 1, w, r 1 9'), (1, 7, 9, 'rrrwwr', 'W 9, R 1, w'),
+    (1, 7, 9, 'rrrrwwr', 'W 9, R 1, w, r 1 7'), (1, 7, 9, 'wrrrrrw', 'W 9, R 1, r 1 7, w'),
+    (2, 7, 9, 'wwwrrrrrrrRw', 'W 9, R 1, r 1 9, w'),
+    (2, 7, 9, 'rwwwrrrrrrrrrrr', 'W 9, R 1, r 1 9'), (2, 7, 9, 'rwwwrrrrrrrrrr', 'W 9, R 1'),
+]
+
+
+def bench_of_turns(n, start, v, turns):
+    """The bench's print for the same calls: a line for each refused turn first."""
+    calls = [f'{n} {start}', f'W {v}', 'R 1', *(f'S {"wr".index(turn)}' for turn in turns)]
+    return bench(''.join(call + '\n' for call in calls).encode())
+
+
+def test_drill_sessions():
+    """Card 11 on inputs and schedules written out by hand; of the latter, “the judge's line as on
+    the bench”, where “Turns after an end are refused 8”, too."""
+    for data, print_ in DRILL_SESSIONS:
+        equal(drill(data), print_, f'drill of {data[:40]!r}')
+    for data in BAD_DRILLS:
+        equal(drill(data), 'bad line 1\n', f'drill of {data[:40]!r}')
+    for n, start, v, shown, text in TURN_SESSIONS:
+        turns, rows = shown.lower(), log_of(n, start, text)
+        equal(run_turns(n, start, v, turns), (shown, rows), f'{n} readers, {shown}')
+        refused = ['refused 8' for turn in shown if turn in 'WR']
+        equal(bench_of_turns(n, start, v, turns).splitlines(),
+              [*refused, *listing(rows), verdict(brute(rows))], f'bench of {n} readers, {shown}')
+
+
+@cache
+def sorted_schedules(length):
+    """Schedules told again, by the writer's turns: all words of w and r of this length with so many
+    w, sorted falling, as r comes before w."""
+    words = [''.join(letters) for letters in product('rw', repeat=length)]
+    return {a: sorted((word for word in words if word.count('w') == a), reverse=True)
+            for a in range(length + 1)}
+
+
+def test_schedules():
+    """Card 11: all schedules that there are may follow either turn, and “they are as many as the
+    ways to pick a of a+b turns”. How many there are."""
+    tally = 0
+    for length in range(1, MAX_TURNS + 1):
+        for a, words in sorted_schedules(length).items():
+            for told in (schedules, after_writer, after_reader):
+                equal(told(a, length - a), words, f'{told.__name__} of {a} turns of {length}')
+            equal(len(words), comb(length, a), f'schedules of {a} turns of {length}')
+            tally += len(words)
+    return tally
+
+
+NEVER = MAX_TURNS  # no turn
+
+
+def turn_place(turns, letter, number):
+    """Where the turn of this letter and this number, from 1, stands; or NEVER."""
+    places = [at for at, turn in enumerate(turns) if turn == letter]
+    return places[number - 1] if number <= len(places) else NEVER
+
+
+def retold_turns(n, start, v, turns):
+    """run_turns told again from the turns alone. Reader 1's word is stored at the write's sub-step
+    n+1, with another stamp; a read looks at it at its sub-steps 1, 3 and n+3. If it is stored in
+    between, there is a second attempt, which nothing disturbs. So “A write ends at its sub-step
+    2n. A read ends at 2n+3 if the three looks of its first attempt have equal stamps, else at
+    3n+6” (01), with the start reading if it was stored behind the looks, or never."""
+    stored, first, third = (turn_place(turns, *of) for of in (('w', n + 1), ('r', 1), ('r', n + 3)))
+    last = 3 * n + 6 if first < stored < third else 2 * n + 3
+    ends = {'w': turn_place(turns, 'w', 2 * n), 'r': turn_place(turns, 'r', last)}
+    shown = ''.join(turn.upper() if at > ends[turn] else turn for at, turn in enumerate(turns))
+    rows = {'w': 'w', 'r': f'r 1 {start if third < stored else v}'}
+    ended = [rows[turn] for at, turn in enumerate(turns) if at == ends[turn]]
+    return shown, log_of(n, start, ', '.join([f'W {v}', 'R 1', *ended]))
+
+
+@cache
+def brute_line(*rows):
+    """The judge's line by the definition."""
+    return verdict(brute(rows))
+
+
+def drill_numbers():
+    """n, start, v, a and b of drills: all of few turns for any readers, a write of the start's
+    reading among them; longer ones, so that each operation may end, the read behind a write half
+    way and after its second attempt, too, and be refused a turn after that."""
+    for n, length in product(range(1, MAX_READERS + 1), range(1, 9)):
+        yield from ((n, 7, 7 + n % 3, a, length - a) for a in range(length + 1))
+    yield from ((1, 7, 9, a, length - a) for length in range(9, 12) for a in range(length + 1))
+    yield from ((1, 7, 7, 3, 7), (1, 4294967295, 0, 3, 13), (1, 0, 4294967295, 4, 12),
+                (2, 7, 7, 3, 8), (2, 7, 9, 3, 13), (2, 7, 9, 4, 12), (3, 7, 9, 5, 10),
+                (3, 7, 9, 6, 9), (3, 7, 9, 1, 15), (5, 7, 9, 13, 3), (6, 7, 9, 1, 15),
+                (8, 7, 9, 15, 1), (8, 7, 9, 16, 0))
+
+
+def test_drills():
+    """Card 11, line by line: turns and rows told again, and the judge's line by the definition,
+    which finds an order always."""
+    tally = Counter()
+    for numbers in drill_numbers():
+        *register, a, b = numbers
+        lines = []
+        for turns in sorted_schedules(a + b)[a]:
+            shown, rows = retold_turns(*register, turns)
+            equal(run_turns(*register, turns), (shown, rows), f'{register}: {turns}')
+            line = brute_line(*rows)
+            must(line.startswith('order'), f'an order of {register}: {turns}')
+            lines.append(f'{shown} {line}\n')
+            tally.update(['lines', line, *(set(shown) & {'W', 'R'})])
+        equal(drill(b'%d %d %d %d %d\n' % numbers), ''.join(lines), f'drill of {numbers}')
+    common = ('W', 'R', 'order', 'order 1', 'order 2', 'order 1 2', 'order 2 1')
+    must(min(tally[k] for k in common) > 100, 'every line is common')
+    return tally
+
+
 def test_judges():
     """Brute force against the sweep on small logs of every sort, half of them with bands."""
     pick = random.Random(2).randrange
@@ -2292,6 +2534,7 @@ def selftest():
     test_store_questions()
     test_restore_questions()
     test_strip_files()
+    test_drill_sessions()
     for line in test_lists():
         print(line)
     tally = test_judges()
@@ -2303,6 +2546,10 @@ def selftest():
     print(f'strips of all {test_stored_logs()} small logs put back')
     tally = test_matching_strips()
     print(f"bytes and rows: {tally['logs']} restored, 10: {tally[10]}, 16: {tally[16]}")
+    print(f'schedules told in two ways agree: {test_schedules()}')
+    tally = test_drills()
+    print(f"drills told in two ways agree: {tally['lines']} lines, every one with an order; with "
+          f"turns of the write refused {tally['W']}, of the read {tally['R']}")
     print('selftest passed')
 
 
@@ -2310,8 +2557,9 @@ def selftest():
 
 def main(arguments):
     """See the head of this file."""
-    if arguments == ['bench']:
-        sys.stdout.write(bench(sys.stdin.buffer.read(MAX_INPUT + 1)))
+    if arguments in (['bench'], ['drill']):
+        made = {'bench': bench, 'drill': drill}[arguments[0]]
+        sys.stdout.write(made(sys.stdin.buffer.read(MAX_INPUT + 1)))
     elif arguments == ['verdict']:
         print(verdict(judge_bytes(sys.stdin.buffer.read())))
     elif arguments[:1] == ['verdict']:

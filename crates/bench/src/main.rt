@@ -5,13 +5,6 @@ use prints::bench::bench_print;
 ghost use mathlib.Core.Path.{_≡_};
 ghost use lib.ListN.{length};
 
-// Room for an input, and for one byte more.
-fn input_bytes() -> [u8; 65537]
-    ensures { λ r. ⌜ 65537 ≡ length r ⌝ }
-{
-    [0; 65537]
-}
-
 // Room for every print.
 fn print_bytes() -> [u8; 1048576]
     ensures { λ r. ⌜ 1048576 ≡ length r ⌝ }
@@ -21,7 +14,7 @@ fn print_bytes() -> [u8; 1048576]
 
 // The print of input k. Of an input that is longer than 65,536 bytes one more is read.
 fn print_input(k: usize) {
-    let mut bytes = input_bytes();
+    let mut bytes = inputs::text_bytes();
     let input = inputs::read(k, &mut bytes);
     if input.found {
         let count = input.count;

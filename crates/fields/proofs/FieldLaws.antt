@@ -12,7 +12,7 @@ use lib.Seq.{drop-cons, take-all}
 use borrow.Author.Tests.{eq-eqb, ne-eqb, le-ltb, lt-ltb}
 use Rattle.words.specs.Choice.{pick}
 use Rattle.words.proofs.Laws.Choice.{lt-ind}
-use Rattle.fields.specs.Fields.{before, placeOf, isDigit, allDigits, valueFrom, none, numberIn, readersIn, startIn}
+use Rattle.fields.specs.Fields.{before, placeOf, isDigit, allDigits, valueFrom, none, numberIn}
 use Rattle.fields.specs.Digits.{digitAfter, digitsAfter}
 
 -- A search from a place on.
@@ -107,20 +107,3 @@ digit-large v b h = rw (le-ltb (v * 10 + (b - 48)) none h, same (isDigit b) none
 pub digit-bad : (v b : ℕ) → isDigit b ≡ false → none ≡ digitAfter v b
 unfolding digitAfter
 digit-bad v b e = rw e
-
--- The cases of a first line.
-module _ (line : List ℕ) (i a b : ℕ) (at : i ≡ placeOf 32 line 0) where
-  pub readers-are : a ≡ numberIn (take i line) → a ≡ readersIn line
-  unfolding readersIn
-  readers-are e = rw at at e
-
-  pub start-is : b ≡ numberIn (drop (i + 1) line) → b ≡ startIn line
-  unfolding startIn
-  start-is e = rw at at e
-
-  pub readers-all : length line ≤ i → a ≡ numberIn line → a ≡ readersIn line
-  readers-all h e = readers-are (e ∙ ap numberIn (sym (take-all i line h)))
-
-  pub start-none : length line ≤ i → none ≡ startIn line
-  unfolding startIn
-  start-none h = number-none [] refl ∙ ap numberIn (sym (drop-of-length-le line {i = placeOf 32 line 0 + 1} (omega arith)))

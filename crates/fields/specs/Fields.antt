@@ -2,9 +2,9 @@
 -- zeros allowed, one space between".
 use Prim.Native.Nat.{ℕ, _+_, _-_, _*_, _^_}
 use mathlib.Core.Bool.{Bool, true, false, _&&_}
-use mathlib.Core.List.{List, [], _∷_}
+use mathlib.Core.List.{List, [], _∷_, map}
 use lib.Dec.{eqb, leb, ltb}
-use lib.ListN.{take, drop}
+use lib.ListN.{length, drop}
 use Rattle.words.specs.Choice.{pick}
 
 -- how many bytes stand before the first x
@@ -41,9 +41,26 @@ none = 2 ^ 32
 unfoldable pub numberIn : List ℕ → ℕ
 numberIn bs = pick (notEmpty bs && (allDigits bs && ltb (valueFrom 0 bs) none)) (valueFrom 0 bs) none
 
--- the number of readers and the start reading of a first line; it is bad if either is none
-unfoldable pub readersIn : List ℕ → ℕ
-readersIn line = numberIn (take (placeOf 32 line 0) line)
+-- a byte more at the front of the first field
+unfoldable pub longer : ℕ → List (List ℕ) → List (List ℕ)
+longer b [] = (b ∷ []) ∷ []
+longer b (f ∷ fs) = (b ∷ f) ∷ fs
 
-unfoldable pub startIn : List ℕ → ℕ
-startIn line = numberIn (drop (placeOf 32 line 0 + 1) line)
+-- "one space between": the fields of a line are what stands before the first space, between two spaces, and behind the last; a line
+-- without a space is one field
+unfoldable pub fieldsOf : List ℕ → List (List ℕ)
+fieldsOf [] = [] ∷ []
+fieldsOf (b ∷ bs) = pick (eqb b 32) ([] ∷ fieldsOf bs) (longer b (fieldsOf bs))
+
+-- their numbers, or none in the place of a field that is no number
+unfoldable pub numbersIn : List ℕ → List ℕ
+numbersIn line = map numberIn (fieldsOf line)
+
+-- each is a number
+unfoldable pub eachNumber : List ℕ → Bool
+eachNumber [] = true
+eachNumber (x ∷ xs) = ltb x none && eachNumber xs
+
+-- there are k fields, and each is a number
+unfoldable pub allNumbers : ℕ → List ℕ → Bool
+allNumbers k ns = eqb (length ns) k && eachNumber ns

@@ -1,17 +1,13 @@
 // The numbers and fields of lines.
 ghost use mathlib.Core.Path.{_≡_};
-ghost use Prim.Native.Nat.{_≤_};
-ghost use Rattle.fields.specs.Fields.{placeOf, none, numberIn, readersIn, startIn};
+ghost use Prim.Native.Nat.{_+_, _≤_};
+ghost use lib.ListN.{length, set};
+ghost use lib.Seq.{sets};
+ghost use Rattle.fields.specs.Fields.{placeOf, none, numberIn, numbersIn, eachNumber, allNumbers};
 ghost use Rattle.fields.specs.Digits.{digitAfter};
 
 // A field that is no number.
 pub const NONE: u64 = 4294967296;
-
-// The fields of a first line, each a number or NONE.
-pub struct First {
-    pub readers: u64,
-    pub start: u64,
-}
 
 // The place of the first byte x from a place on, or the end.
 pub fn place_of(bytes: &[u8], x: u8, from: usize) -> usize
@@ -57,23 +53,61 @@ pub fn number_in(text: &[u8]) -> u64
     v
 }
 
-// The fields of a first line.
-pub fn first_in(line: &[u8]) -> First
-    ensures readers { λ r. ⌜ r .readers ≡ readersIn (now (line .entry)) ⌝ }
-    ensures start { λ r. ⌜ r .start ≡ startIn (now (line .entry)) ⌝ }
+// Puts a number at place k, if there is such a place.
+fn put(numbers: &mut [u64], k: usize, x: u64)
+    ensures { λ r. ⌜ now (numbers .exit) ≡ set (now (numbers .entry)) k x ⌝ }
 {
-    let space = place_of(line, 32, 0);
-    if space < line.len() {
-        let readers = number_in(&line[..space]);
-        let next = space + 1;
-        let start = number_in(&line[next..]);
-        return First {
-            readers: readers,
-            start: start,
-        };
+    if k < numbers.len() {
+        numbers[k] = x;
     }
-    First {
-        readers: number_in(line),
-        start: NONE,
+}
+
+// Puts the numbers of a line's fields into the places, as far as there are places, and gives how many fields stand before the last.
+fn put_numbers(line: &[u8], numbers: &mut [u64]) -> usize
+    ensures count { λ r. ⌜ r + 1 ≡ length (numbersIn (now (line .entry))) ⌝ }
+    ensures numbers { λ r. ⌜ now (numbers .exit) ≡ sets (now (numbers .entry)) 0 (numbersIn (now (line .entry))) ⌝ }
+{
+    let mut at = 0;
+    let mut k = 0;
+    let mut end = place_of(line, 32, 0);
+    while end < line.len() {
+        let x = number_in(&line[at..end]);
+        put(numbers, k, x);
+        k += 1;
+        at = end + 1;
+        end = place_of(line, 32, at);
     }
+    let x = number_in(&line[at..]);
+    put(numbers, k, x);
+    k
+}
+
+// Whether none of the numbers is NONE.
+fn each_number(numbers: &[u64]) -> bool
+    ensures { λ r. ⌜ r ≡ eachNumber (now (numbers .entry)) ⌝ }
+{
+    let mut i = 0;
+    while i < numbers.len() {
+        if numbers[i] < NONE {} else {
+            return false;
+        }
+        i += 1;
+    }
+    true
+}
+
+// Reads the numbers of a line's fields into the places, as far as there are places: whether there are as many fields as places, and each
+// is a number.
+pub fn read_numbers(line: &[u8], numbers: &mut [u64]) -> bool
+    ensures good { λ r. ⌜ r ≡ allNumbers (length (now (numbers .entry))) (numbersIn (now (line .entry))) ⌝ }
+    ensures numbers { λ r. ⌜ now (numbers .exit) ≡ sets (now (numbers .entry)) 0 (numbersIn (now (line .entry))) ⌝ }
+{
+    let last = put_numbers(line, numbers);
+    if last < numbers.len() {} else {
+        return false;
+    }
+    if numbers.len() - last == 1 {
+        return each_number(numbers);
+    }
+    false
 }

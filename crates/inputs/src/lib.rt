@@ -38,6 +38,14 @@ pub fn log_bytes() -> [u8; 32769]
     [0; 32769]
 }
 
+// The same for an input of the bench, or of a drill.
+pub fn text_bytes() -> [u8; 65537]
+    ensures zeros { λ r. ⌜ r ≡ replicate 65537 0 ⌝ }
+    ensures length { λ r. ⌜ 65537 ≡ length r ⌝ }
+{
+    [0; 65537]
+}
+
 // No input: a line on standard error says why.
 fn missing(what: &[u8], bytes: &[u8]) -> Input
     ensures { λ r. ⌜ Counts (r .count) (now (bytes .entry)) ⌝ }

@@ -1,10 +1,10 @@
 -- What a call answers and leaves, as far as the print needs it.
-use Prim.Native.Nat.{ℕ, _+_, _-_, _^_, _≤_, _<_}
+use Prim.Native.Nat.{ℕ, _+_, _-_, _*_, _^_, _≤_, _<_}
 use native.Mathlib.Omega.{arith}
 use mathlib.Core.Path.{_≡_, refl, _∙_}
 use mathlib.Core.Bool.{Bool, true, false}
 use mathlib.Core.List.{List, [], _∷_}
-use lib.Dec.{eqb}
+use lib.Dec.{eqb, leb}
 use lib.ListN.{length, set, length-set}
 use borrow.Author.Tests.{eqb-false}
 use Rattle.words.specs.Choice.{pick}
@@ -17,7 +17,7 @@ use Rattle.common.specs.Calls.{Call, write, read, step, retire}
 use Rattle.common.specs.Head.{hasRoom}
 use Rattle.common.specs.State.{readerAt, isRetired, valueIn}
 use Rattle.common.specs.Rules.{stateOk, InRange}
-use Rattle.common.specs.SetUp.{Outcome}
+use Rattle.common.specs.SetUp.{Outcome, startRow, readersFit, rowsFit, setUpOf}
 use Rattle.common.specs.Register.{beginWriteOf, beginReadOf, stepWriter, stepReader, stepOf, retireOf, callOf, runOf}
 use Rattle.common.proofs.Asked.{as-processor}
 use Rattle.common.proofs.Range.{test-range, reader-ok}
@@ -113,3 +113,12 @@ rows-same [] s t l = refl
 rows-same (c ∷ cs) s t l =
     let o = callOf ticketRules s t l c in
     rows-same cs (o .state) (o .table) (o .log) ∙ plain-call s t l c .1
+
+-- So does the log that is lent to a set-up.
+pub set-up-same : (n v : ℕ) (t l : List ℕ) → length (setUpOf ticketRules n v 0 t l .log) ≡ length l
+unfolding setUpOf
+set-up-same n v t l =
+    let P : Outcome → Type 0 = λ o. length (o .log) ≡ length l in
+    pick-ind P (readersFit n) _ _
+    (λ _. pick-ind P (leb (n * n + n) (length t)) _ _
+    (λ _. pick-ind P (rowsFit (length l)) _ _ (λ _. length-set l 0 (startRow n v)) (λ _. refl)) (λ _. refl)) (λ _. refl)

@@ -3,5 +3,8 @@ pub mod Calls
 pub mod Laws
 pub mod Short
 pub mod SheetShort
+pub mod DrillShort
 pub mod Book
+pub mod DrillBook
 pub mod Sessions
+pub mod DrillTurns

@@ -3,6 +3,8 @@ use Prim.Native.Nat.{ℕ}
 use Prim.Native.String.{String}
 use mathlib.Core.Path.{_≡_, refl}
 use mathlib.Core.List.{List, [], _∷_, map, flatMap}
+use lib.Dec.{eqb}
+use Rattle.words.specs.Choice.{pick}
 use Rattle.words.specs.Cell
 use Rattle.words.specs.Row
 use Rattle.words.specs.Row.{rowOf}
@@ -30,6 +32,7 @@ use Rattle.protocol.specs.State
 use Rattle.protocol.specs.Write
 use Rattle.protocol.specs.Read
 use Rattle.protocol.specs.Rules as TicketRules
+use Rattle.schedules.specs.Schedules
 use Rattle.fields.specs.Fields
 use Rattle.script.specs.Script
 use Rattle.lines.specs.Ascii.{ascii}
@@ -37,6 +40,8 @@ use Rattle.lines.specs.Lines
 use Rattle.printing.specs.Verdict.{verdictLine, fromBytes, verdictPrint}
 use Rattle.printing.specs.Sheet
 use Rattle.printing.specs.Sheet.{sheetPrint}
+use Rattle.printing.specs.Drill
+use Rattle.printing.specs.Drill.{drillLine, drillPrint}
 use Rattle.printing.specs.Print.{benchPrint, goodFirst, registerPrint, callsPrint, refusalOf, logPrint}
 
 -- a program's print for its input, and what it is to be
@@ -57,6 +62,14 @@ log rows wanted = bytes (bytesOf rows) wanted
 -- the program `sheet` on bytes
 abbrev sheet : List ℕ → String → Session
 sheet input wanted = record { got = sheetPrint input; wanted = wanted }
+
+-- the program `drill`
+abbrev drill : String → String → Session
+drill input wanted = record { got = drillPrint (ascii input); wanted = wanted }
+
+-- its line for one schedule of one reader, a write of 9 and start reading 7
+abbrev line : String → String → Session
+line turns wanted = record { got = drillLine 1 7 9 (map (λ (c : ℕ). pick (eqb c 119) Schedules.w Schedules.r) (ascii turns)); wanted = wanted }
 
 -- row 0 of two readers with start reading 7, and rows in the letters of the listing
 abbrev two : List ℕ → List ℕ
@@ -133,8 +146,47 @@ table =
     ∷ sheet [] "refused 9\n"
     ∷ sheet (80 ∷ 16 ∷ 0 ∷ 0 ∷ 0 ∷ 0 ∷ 0 ∷ []) "refused 9\n"
     ∷ sheet (80 ∷ 16 ∷ 0 ∷ 0 ∷ 0 ∷ 0 ∷ 0 ∷ 7 ∷ 0 ∷ []) "refused 9\n"
+    -- document 02, card 11: "`1 7 9 1 1` gives `wr order`, then `rw order`"
+    ∷ drill "1 7 9 1 1\n" "wr order\nrw order\n"
+    -- no turn of the writer, and none of the reader
+    ∷ drill "1 7 9 0 2\n" "rr order\n"
+    ∷ drill "1 7 9 2 0\n" "ww order 1\n"
+    -- "Turns after an end are refused 8 and shown.": of the write, and of the read
+    ∷ drill "1 7 9 3 0\n" "wwW order 1\n"
+    ∷ drill "1 7 9 0 6\n" "rrrrrR order 2\n"
+    -- "a+b at most 16"
+    ∷ drill "1 7 9 16 0\n" "wwWWWWWWWWWWWWWW order 1\n"
+    -- "in dictionary order with the writer first"
+    ∷ drill "1 7 9 2 3\n"
+    "wwrrr order 1\nwrwrr order 1\nwrrwr order 1\nwrrrw order 1\nrwwrr order 1\nrwrwr order 1\nrwrrw order 1\nrrwwr order 1\nrrwrw order 1\nrrrww order 1\n"
+    -- lines of `1 7 9 2 10`: a read that the write overtakes ends with its second attempt, behind nine turns; one that it does not, behind five
+    ∷ line "rwwrrrrrrrrr" "rwwrrrrrrrrR order 1 2\n"
+    ∷ line "wrrrwrrrrrrr" "wrrrwrrrrrrR order 1 2\n"
+    ∷ line "rrrrwwrrrrrr" "rrrrwwrRRRRR order 2 1\n"
+    -- two readers; the start reading, written again; "leading zeros allowed"
+    ∷ drill "2 7 9 4 1\n" "wwwwr order 1\nwwwrw order 1\nwwrww order 1\nwrwww order 1\nrwwww order 1\n"
+    ∷ drill "1 7 7 2 1\n" "wwr order 1\nwrw order 1\nrww order 1\n"
+    ∷ drill "001 07 0009 1 02\n" "wrr order\nrwr order\nrrw order\n"
+    -- "a bad input line, input after it, or a+b not 1 to 16, gives `bad line 1`"
+    ∷ drill "" "bad line 1\n"
+    ∷ drill "1 7 9 1 1" "bad line 1\n"
+    ∷ drill "1 7 9 1\n" "bad line 1\n"
+    ∷ drill "1 7 9 1 1 1\n" "bad line 1\n"
+    ∷ drill "1 7  9 1 1\n" "bad line 1\n"
+    ∷ drill "1 7 9 1 1 \n" "bad line 1\n"
+    ∷ drill "1 7 4294967296 1 1\n" "bad line 1\n"
+    ∷ drill "1 7 9 1 1\r\n" "bad line 1\n"
+    ∷ drill "1 7 9 1 1\n\n" "bad line 1\n"
+    ∷ drill "1 7 9 1 1\n1" "bad line 1\n"
+    ∷ drill "1 7 9 0 0\n" "bad line 1\n"
+    ∷ drill "1 7 9 9 8\n" "bad line 1\n"
+    ∷ drill "0 7 9 4294967295 2\n" "bad line 1\n"
+    -- "then n not 1 to 16 `refused 1`, and no more": a bad line comes first
+    ∷ drill "0 7 9 1 1\n" "refused 1\n"
+    ∷ drill "17 7 9 1 1\n" "refused 1\n"
+    ∷ drill "0 7 9 0 0\n" "bad line 1\n"
     ∷ []
 
 pub sessions : map (λ (s : Session). s .got) table ≡ map (λ (s : Session). ascii (s .wanted)) table
-unfolding Cell.packCell Cell.unpackCell Row.packRow Index.index Index.inRow Answer.cases Answer.beginsTo Answer.countAfter Fold.upTo Rows.kindOf Rows.within Rows.suits Rows.begins Rows.kindAt Rows.processorAt Rows.zeroAt Rows.valueAt WellFormed.wellFormed WellFormed.headOk WellFormed.fields WellFormed.openAt WellFormed.alternates WellFormed.rowOk WellFormed.all History.eventAt History.endAt Search.first Sweep.placeAt Sweep.adds Sweep.floors Sweep.floor Sweep.place Sweep.missing Listing.behind Listing.group Listing.build Listing.listing Linearization.positionIn Linearization.lastWrite Linearization.standsBehind Lag.withWrite Lag.begunBefore Lag.rankOf Lag.lagOf LagSheet.picked LagSheet.readsTo LagSheet.sum LagSheet.readsOf LagSheet.lagsOf LagSheet.overReaders LagSheet.arrayOf LagSheet.linesIn LagSheet.figuresIn lib.Count.ones lib.Count.onesIn Counting.all Counting.count Tickets.withTicket Tickets.smallestOut Tickets.through Tickets.walkOn Index.other Head.headOk Rules.stateOk SetUp.setUpOf Register.beginWriteOf Register.beginReadOf Register.stepWriter Register.stepReader Register.stepOf Register.callOf Register.runOf State.writerOk State.readerOk Write.ticketOf Write.writeStep Read.attemptStep Read.resultStep Read.readStep TicketRules.freshCells Fields.placeOf Fields.before Fields.readersIn Fields.numberIn Fields.allDigits Fields.valueFrom Fields.startIn Script.kindIn Script.callIn Script.callFrom Script.callsFrom Script.endFrom Lines.decimalIn Lines.decimal Lines.lineOf Lines.field flatMap Lines.orderLine Lines.letterOf Lines.readerText Lines.readingText Lines.rowText Lines.rowLines Lines.readersLine Bytes.readRows Bytes.rowsOf Bytes.bytesOf verdictLine fromBytes Sheet.lagEnd Sheet.readerLine Sheet.readerLines Sheet.figuresText Sheet.sheetText benchPrint goodFirst registerPrint callsPrint refusalOf logPrint
+unfolding Cell.packCell Cell.unpackCell Row.packRow Index.index Index.inRow Answer.cases Answer.beginsTo Answer.countAfter Fold.upTo Rows.kindOf Rows.within Rows.suits Rows.begins Rows.kindAt Rows.processorAt Rows.zeroAt Rows.valueAt WellFormed.wellFormed WellFormed.headOk WellFormed.fields WellFormed.openAt WellFormed.alternates WellFormed.rowOk WellFormed.all History.eventAt History.endAt Search.first Sweep.placeAt Sweep.adds Sweep.floors Sweep.floor Sweep.place Sweep.missing Listing.behind Listing.group Listing.build Listing.listing Linearization.positionIn Linearization.lastWrite Linearization.standsBehind Lag.withWrite Lag.begunBefore Lag.rankOf Lag.lagOf LagSheet.picked LagSheet.readsTo LagSheet.sum LagSheet.readsOf LagSheet.lagsOf LagSheet.overReaders LagSheet.arrayOf LagSheet.linesIn LagSheet.figuresIn lib.Count.ones lib.Count.onesIn Counting.all Counting.count Tickets.withTicket Tickets.smallestOut Tickets.through Tickets.walkOn Index.other Head.headOk Rules.stateOk SetUp.setUpOf Register.beginWriteOf Register.beginReadOf Register.stepWriter Register.stepReader Register.stepOf Register.callOf Register.runOf State.writerOk State.readerOk Write.ticketOf Write.writeStep Read.attemptStep Read.resultStep Read.readStep TicketRules.freshCells Fields.placeOf Fields.before Fields.numberIn Fields.allDigits Fields.valueFrom Fields.longer Fields.fieldsOf Fields.numbersIn Fields.eachNumber Fields.allNumbers Script.kindIn Script.callIn Script.callFrom Script.callsFrom Script.endFrom Lines.decimalIn Lines.decimal Lines.lineOf Lines.field flatMap Lines.orderLine Lines.letterOf Lines.readerText Lines.readingText Lines.rowText Lines.rowLines Lines.readersLine Bytes.readRows Bytes.rowsOf Bytes.bytesOf verdictLine fromBytes Sheet.lagEnd Sheet.readerLine Sheet.readerLines Sheet.figuresText Sheet.sheetText benchPrint goodFirst registerPrint callsPrint refusalOf logPrint Schedules.afterWriter Schedules.afterReader Drill.turnLetter Drill.turnLetters drillLine Drill.drillLines drillPrint
 sessions = refl

@@ -1,5 +1,5 @@
 -- No print is longer than the buffer that its program lends.
-use Prim.Native.Nat.{ℕ, zero, suc, _+_, _*_, _%_, _^_, _≤_, _<_}
+use Prim.Native.Nat.{ℕ, zero, suc, _+_, _*_, _%_, _^_, _≤_, _<_, min}
 use native.Mathlib.Omega.{arith}
 use native.Mathlib.Decide.{decLt}
 use mathlib.Core.Path.{_≡_, refl, ap}
@@ -7,7 +7,7 @@ use mathlib.Core.Logic.{inl, inr}
 use mathlib.Core.Bool.{_&&_}
 use mathlib.Core.List.{List, [], _∷_, _++_, map, flatMap}
 use lib.Dec.{leb, ltb, eqb}
-use lib.ListN.{length, getD, take, drop, length-append, length-take, length-drop, length-map, length-set, List·getD-eq-default}
+use lib.ListN.{length, getD, take, drop, length-append, length-take, length-drop, length-map, List·getD-eq-default}
 use borrow.Author.Tests.{leb-true, ltb-true}
 use Rattle.words.specs.Choice.{pick}
 use Rattle.words.proofs.Laws.Choice.{pick-ind, left, right}
@@ -35,17 +35,18 @@ use Rattle.common.specs.declared.Refusal.{Refusal}
 use Rattle.common.specs.declared.Refusal.the-variants.{Readers, Cells, Rows, Range, Processor, Busy, Full, Idle, Retired, Spent}
 use Rattle.common.specs.Answers.{refusalNumber, numberOf}
 use Rattle.common.specs.CallWords.{callIn}
-use Rattle.common.specs.SetUp.{Outcome, startRow, setUpOf}
+use Rattle.common.specs.SetUp.{Outcome, setUpOf}
 use Rattle.common.specs.Register.{runOf}
 use Rattle.protocol.specs.Rules.{ticketRules}
-use Rattle.fields.specs.Fields.{placeOf, readersIn, startIn}
+use Rattle.fields.specs.Fields.{placeOf, allNumbers}
+use Rattle.fields.proofs.NumberLaws.{good-number}
 use Rattle.script.proofs.ScriptLaws.{calls-fit}
 use Rattle.lines.specs.Ascii.{ascii}
 use Rattle.lines.specs.Lines.{badLine, refusedLine, noOrderLine, orderLine, readersLine, rowsText}
 use Rattle.lines.proofs.Lengths.{line-short, order-short, readers-short, rows-short}
 use Rattle.printing.specs.Verdict.{verdictLine, fromBytes, verdictPrint}
-use Rattle.printing.specs.Print.{logPrint, refusalOf, secondLine, calls, nextLine, badBehind, callsPrint, lentCells, lentRows, registerPrint, firstLine, goodFirst, mostBytes, benchPrint}
-use Rattle.printing.proofs.Answers.{answer-each, rows-same}
+use Rattle.printing.specs.Print.{logPrint, refusalOf, secondLine, calls, nextLine, badBehind, callsPrint, lentCells, lentRows, registerPrint, firstNumbers, goodFirst, mostBytes, benchPrint}
+use Rattle.printing.proofs.Answers.{answer-each, rows-same, set-up-same}
 use Rattle.printing.proofs.Calls.{enough}
 
 pub refused-short : (k : ℕ) → k < 2 ^ 64 → length (refusedLine k) ≤ 29
@@ -87,7 +88,7 @@ module _ (log : List ℕ) where
         (λ e. omega (arith, length-inserted (w * 8192) (keysTo log (length log)), room-unended log (tested F) (ltb-true 0 w (left (ltb 0 w) (eqb w top) e))))
         (λ _. room log (tested F) (length log) (F .size .some) (omega arith)))
 
-    listing-few : length (listing log) ≤ 4096
+    listing-few : length (listing log) ≤ length log
     listing-few =
         omega (
           arith,
@@ -95,10 +96,9 @@ module _ (log : List ℕ) where
           length-map (keysOf log) decode,
           keys-few,
           begins-few log (length log),
-          F .size .few,
         )
 
-    order-line : length (orderLine (listing log)) ≤ 86022
+    order-line : length (orderLine (listing log)) ≤ 21 * length log + 6
     order-line =
         let O = before-missing (historyOf log) (laws log (tested F)) (length log) ok in
         let E = has-earliest log (tested F) _ O in
@@ -107,14 +107,15 @@ module _ (log : List ℕ) where
   abbrev line : Asked log 4096 → List ℕ
   line a = said log 4096 refusedLine noOrderLine orderLine a
 
-  line-few : (a : Asked log 4096) → length (line a) ≤ 86022
+  line-few : (a : Asked log 4096) → length (line a) ≤ 21 * min (length log) 4096 + 30
   line-few (no9 a) = omega (arith, refused-short 9 (omega arith))
   line-few (no10 r w) = omega (arith, refused-short 10 (omega arith))
   line-few (no11 F a) = omega (arith, refused-short 11 (omega arith))
   line-few (no12 F a b) = omega (arith, line-short (ascii "no order ") (missing (historyOf log)) (omega (arith, F .size .few)))
-  line-few (none F a b) = order-line F b
+  line-few (none F a b) = omega (arith, order-line F b, F .size .few)
 
-  verdict-few : length (verdictLine log) ≤ 86022
+  -- a line of a log of few rows is short
+  pub verdict-few : length (verdictLine log) ≤ 21 * min (length log) 4096 + 30
   unfolding verdictLine
   verdict-few = rw (cases-are log 4096 refusedLine noOrderLine orderLine (ask log 4096)) (line-few (ask log 4096))
 
@@ -169,11 +170,7 @@ log-few n v rows a b h =
     )
 
 pub set-up-rows : (n v : ℕ) → length (setUpOf ticketRules n v 0 lentCells lentRows .log) ≤ 4096
-unfolding setUpOf
-set-up-rows n v =
-    let P : Outcome → Type 0 = λ o. length (o .log) ≤ 4096 in
-    pick-ind P (leb 1 n && leb n 16) _ _
-    (λ _. pick-ind P (leb (n * n + n) (length lentCells)) _ _ (λ _. omega (arith, length-set lentRows 0 (startRow n v))) (λ _. omega arith)) (λ _. omega arith)
+set-up-rows n v = omega (arith, set-up-same n v lentCells lentRows)
 
 -- A whole print.
 module _ (n v : ℕ) (b : List ℕ) (a : n < 2 ^ 32) (c : v < 2 ^ 32) (h : length b ≤ mostBytes) where
@@ -215,14 +212,13 @@ module _ (n v : ℕ) (b : List ℕ) (a : n < 2 ^ 32) (c : v < 2 ^ 32) (h : lengt
 pub bench-short : (b : List ℕ) → length (benchPrint b) ≤ 1048576
 unfolding benchPrint goodFirst
 bench-short b =
-    let n = readersIn (firstLine b) in
-    let v = startIn (firstLine b) in
+    let ns = firstNumbers b in
     pick-ind (λ (t : List ℕ). length t ≤ 1048576) (leb (length b) mostBytes && goodFirst b) _ _
     (λ e. let g = right (leb (length b) mostBytes) (goodFirst b) e in
-    let f = right (ltb (placeOf 10 b 0) (length b)) (ltb n 4294967296 && ltb v 4294967296) g in
+    let f = right (ltb (placeOf 10 b 0) (length b)) (allNumbers 2 ns) g in
     omega (
       arith,
-      register-short n v b (ltb-true n 4294967296 (left (ltb n 4294967296) (ltb v 4294967296) f)) (ltb-true v 4294967296 (right (ltb n 4294967296) (ltb v 4294967296) f))
+      register-short (getD ns 0 0) (getD ns 1 0) b (good-number 2 ns f 0 (omega arith)) (good-number 2 ns f 1 (omega arith))
           (leb-true (length b) mostBytes (left (leb (length b) mostBytes) (goodFirst b) e)),
     ))
     (λ _. omega (arith, line-short (ascii "bad line ") 1 (omega arith)))

@@ -1,3 +1,4 @@
 pub mod Verdict
 pub mod Sheet
 pub mod Print
+pub mod Drill

@@ -18,14 +18,14 @@ use Rattle.printing.specs.Print.{refusalOf}
 use Rattle.printing.proofs.Answers.{Low, plain-call}
 use Rattle.prints.specs.Words.{refusalIn, refusalText}
 
+pub number-is : (a : Answer) → Low a → refusalIn (answerWord a) ≡ numberOf a
+number-is Accepted h = refl
+number-is (Moved k) h = omega arith
+number-is (Refused r) h = omega arith
+
 text-is : (a : Answer) → Low a → refusalText (answerWord a) ≡ refusalOf a
 unfolding refusalText refusalOf
 text-is a h = ap (λ (k : ℕ). pick (eqb k 0) [] (refusedLine k)) (number-is a h)
-  where
-    number-is : (a : Answer) → Low a → refusalIn (answerWord a) ≡ numberOf a
-    number-is Accepted h = refl
-    number-is (Moved k) h = omega arith
-    number-is (Refused r) h = omega arith
 
 pub texts-are : (cs : List Call) (s : State) (t l : List ℕ)
     → flatMap refusalText (map answerWord (runOf ticketRules s t l cs .answers)) ≡ flatMap refusalOf (runOf ticketRules s t l cs .answers)

@@ -5,17 +5,18 @@ use mathlib.Core.Path.{_≡_, refl, sym, ap, subst, _∙_}
 use mathlib.Core.Bool.{Bool, true, false, _&&_}
 use mathlib.Core.List.{List, map}
 use lib.Dec.{leb, ltb, eqb}
-use lib.ListN.{length, take, replicate, length-take, length-replicate}
+use lib.ListN.{length, getD, take, replicate, length-take, length-replicate}
 use lib.Seq.{sets}
 use borrow.Author.Tests.{ne-eqb, lt-ltb, le-ltb, le-leb}
 use Rattle.words.specs.Choice.{pick}
 use Rattle.common.specs.CallWords.{callIn, callsIn}
-use Rattle.fields.specs.Fields.{placeOf, none, readersIn, startIn}
+use Rattle.fields.specs.Fields.{placeOf, none, numbersIn, allNumbers}
+use Rattle.fields.proofs.NumberLaws.{good-places}
 use Rattle.script.specs.Script.{callsFrom, endFrom, Reads}
 use Rattle.script.proofs.ScriptLaws.{calls-fit}
 use Rattle.lines.specs.Lines.{badLine, Puts}
 use Rattle.lines.proofs.Puts.{sets-front}
-use Rattle.printing.specs.Print.{logPrint, secondLine, calls, callsPrint, registerPrint, firstLine, goodFirst, benchPrint}
+use Rattle.printing.specs.Print.{logPrint, secondLine, calls, callsPrint, registerPrint, firstNumbers, goodFirst, benchPrint}
 use Rattle.prints.specs.Words.{badNumber, ending, mostCalls, runPrint, scriptPrint}
 use Rattle.printing.proofs.Laws.{long-input}
 use Rattle.printing.proofs.Calls.{enough, made}
@@ -61,31 +62,38 @@ module _ (b : List ℕ) (e : ℕ) (h : length b ≤ 65536) (at : e ≡ placeOf 1
   unfolding benchPrint goodFirst
   no-feed i a = rw (le-leb (length b) 65536 h, le-ltb (placeOf 10 b 0) (length b) (omega arith)) a
 
-  module _ (n v : ℕ) (i : e < length b) (f : n ≡ readersIn (take e b)) (g : v ≡ startIn (take e b)) where
-    n-is : n ≡ readersIn (firstLine b)
-    n-is = f ∙ ap (λ (k : ℕ). readersIn (take k b)) at
+  -- whether the first line is good, and the two places that its numbers were put into
+  module _ (i : e < length b) (t : Bool) (good : t ≡ allNumbers 2 (numbersIn (take e b))) where
+    good-is : t ≡ allNumbers 2 (firstNumbers b)
+    good-is = good ∙ ap (λ (k : ℕ). allNumbers 2 (numbersIn (take k b))) at
 
-    v-is : v ≡ startIn (firstLine b)
-    v-is = g ∙ ap (λ (k : ℕ). startIn (take k b)) at
-
-    first-is : leb (length b) 65536 && goodFirst b ≡ (ltb n none && ltb v none)
+    first-is : leb (length b) 65536 && goodFirst b ≡ t
     unfolding goodFirst
-    first-is = rw (n-is, v-is, le-leb (length b) 65536 h, lt-ltb (placeOf 10 b 0) (length b) (omega arith))
+    first-is = rw (le-leb (length b) 65536 h, lt-ltb (placeOf 10 b 0) (length b) (omega arith)) (sym good-is)
 
-    pub bad-first : {l x : List ℕ} {p r : ℕ} → (ltb n none && ltb v none) ≡ false → Puts (badLine 1) p l x r → Puts (benchPrint b) p l x r
+    pub bad-first : {l y : List ℕ} {p r : ℕ} → t ≡ false → Puts (badLine 1) p l y r → Puts (benchPrint b) p l y r
     unfolding benchPrint
-    bad-first t a = rw (first-is ∙ t) a
+    bad-first f a = rw (first-is ∙ f) a
 
-    pub good-first : {l x : List ℕ} {p r : ℕ} → (ltb n none && ltb v none) ≡ true → Puts (scriptPrint n v b (e + 1)) p l x r → Puts (benchPrint b) p l x r
-    unfolding benchPrint
-    good-first {l} {x} {p} {r} t a =
-        rw (first-is ∙ t)
-        (subst (λ (s : List ℕ). Puts s p l x r)
-        (ap (λ (k : ℕ). scriptPrint n v b (k + 1)) at
-        ∙ script-is n v b h
-        ∙ ap (λ (k : ℕ). registerPrint k v b) n-is
-        ∙ ap (λ (k : ℕ). registerPrint (readersIn (firstLine b)) k b) v-is)
-        a)
+    module _ (x : List ℕ) (put : x ≡ sets (replicate 2 0) 0 (numbersIn (take e b))) (f : t ≡ true) where
+      places : (x ≡ firstNumbers b) × ((j : ℕ) → j < 2 → getD x j 0 < none)
+      places =
+          good-places 2 (firstNumbers b) (sym good-is ∙ f) (replicate 2 0) x refl
+          (put ∙ ap (λ (k : ℕ). sets (replicate 2 0) 0 (numbersIn (take k b))) at)
+
+      pub low-number : (j : ℕ) → j < 2 → getD x j 0 < none
+      low-number = places .1
+
+      pub good-first : {l y : List ℕ} {p r : ℕ} → Puts (scriptPrint (getD x 0 0) (getD x 1 0) b (e + 1)) p l y r
+          → Puts (benchPrint b) p l y r
+      unfolding benchPrint
+      good-first {l} {y} {p} {r} a =
+          rw (first-is ∙ f)
+          (subst (λ (s : List ℕ). Puts s p l y r)
+          (ap (λ (k : ℕ). scriptPrint (getD x 0 0) (getD x 1 0) b (k + 1)) at
+          ∙ script-is (getD x 0 0) (getD x 1 0) b h
+          ∙ ap (λ (ns : List ℕ). registerPrint (getD ns 0 0) (getD ns 1 0) b) (places .0))
+          a)
 
 -- The calls that were read are at the front of their words.
 abbrev callPlaces : List ℕ

@@ -4,10 +4,9 @@ use native.Mathlib.Omega.{arith}
 use mathlib.Core.Path.{_≡_, refl, sym, ap, _∙_}
 use mathlib.Core.Logic.{_≢_}
 use mathlib.Core.Bool.{_&&_}
-use mathlib.Core.List.{List, map, flatMap}
+use mathlib.Core.List.{List, flatMap}
 use lib.Dec.{leb}
-use lib.ListN.{length, take, drop, replicate, length-take, length-map}
-use lib.Seq.{take-at}
+use lib.ListN.{length, take, replicate}
 use borrow.Author.Tests.{eq-eqb, ne-eqb, lt-ltb, le-ltb}
 use Rattle.words.proofs.Laws.Choice.{pick-ind}
 use Rattle.common.specs.declared.Answer.{Answer}
@@ -15,20 +14,16 @@ use Rattle.common.specs.declared.Answer.the-variants.{Accepted, Moved, Refused}
 use Rattle.common.specs.declared.Refusal.{Refusal}
 use Rattle.common.specs.declared.Refusal.the-variants.{Readers, Cells, Rows, Range, Processor, Busy, Full, Idle, Retired, Spent}
 use Rattle.common.specs.Answers.{refusalNumber, numberOf}
-use Rattle.common.specs.CallWords.{answerWord, callsIn}
-use Rattle.common.specs.Calls.{Call}
+use Rattle.common.specs.CallWords.{callsIn}
 use Rattle.common.specs.SetUp.{Outcome, setUpOf}
-use Rattle.common.specs.Register.{Ran, runOf}
 use Rattle.protocol.specs.Rules.{ticketRules}
-use Rattle.protocol.specs.Reference.{book}
-use Rattle.protocol.specs.Whole.{Whole}
-use Rattle.lists.specs.Run.{MadeCalls, madeOf, runWordsOf, WholeRun}
+use Rattle.lists.specs.Run.{MadeCalls, runWordsOf}
 use Rattle.lines.specs.Lines.{badLine, refusedLine, Puts}
 use Rattle.lines.proofs.Puts.{behind}
-use Rattle.printing.proofs.Answers.{answer-each}
 use Rattle.printing.specs.Print.{logPrint, lentCells, lentRows}
 use Rattle.prints.specs.Words.{refusalText, badNumber, ending, mostCalls, runPrint}
 use Rattle.prints.proofs.AnswerWords.{texts-are}
+use Rattle.prints.proofs.Made.{front, rows-are}
 
 -- The bad line's number, and what is printed behind the refusals.
 module _ (calls end bytes : ℕ) where
@@ -96,51 +91,14 @@ module _ (n v : ℕ) where
         let z : numberOf (set-up .answer) ≡ k = ap numberOf s ∙ sym i in
         rw (ne-eqb (numberOf (set-up .answer)) 0 (λ y. omega (arith, refusal-some r)), z) a
 
-  -- The run's calls, and what they leave.
+  -- The run's calls.
   module _ (words : List ℕ) (m : MadeCalls) (s : set-up .answer ≡ Accepted) (i : m ≡ runWordsOf ticketRules n v 0 words lentCells lentRows answerPlaces) where
-    abbrev calls : List Call
-    calls = callsIn words answerPlaces
-
-    abbrev ran : Ran
-    ran = runOf ticketRules (set-up .state) (set-up .table) (set-up .log) calls
-
-    made-is : m ≡ madeOf ticketRules (set-up .state) (set-up .table) (set-up .log) words answerPlaces
-    unfolding runWordsOf
-    made-is = rw (eq-eqb (answerWord (set-up .answer)) 0 (ap answerWord s)) at i
-
-    count-is : m .made ≡ length calls
-    unfolding madeOf
-    count-is = ap (λ (y : MadeCalls). y .made) made-is
-
-    front : take (m .made) (m .places) ≡ map answerWord (ran .answers)
-    unfolding madeOf
-    front =
-        ap (λ (y : MadeCalls). take (y .made) (y .places)) made-is
-        ∙ take-at (map answerWord (ran .answers)) (drop (length calls) answerPlaces) (length calls)
-        (length-map (ran .answers) answerWord ∙ answer-each calls (set-up .state) (set-up .table) (set-up .log))
-
-    rows-are : take (m .state .head .used) (m .log) ≡ take (ran .state .head .used) (ran .log)
-    unfolding madeOf
-    rows-are = ap (λ (y : MadeCalls). take (y .state .head .used) (y .log)) made-is
-
-    -- the answers are within their places
-    pub answers-fit : (m .made ≤ length (m .places)) × (m .made ≡ length (take (m .made) (m .places)))
-    answers-fit =
-        let e : m .made ≡ length (take (m .made) (m .places)) = count-is
-        ∙ sym (ap length front ∙ length-map (ran .answers) answerWord ∙ answer-each calls (set-up .state) (set-up .table) (set-up .log)) in
-        (omega (arith, length-take (m .made) (m .places)), e)
-
     pub run-made : (bad : ℕ) {l o x : List ℕ} {p q e : ℕ} → Puts (flatMap refusalText (take (m .made) (m .places))) p l o q
         → Puts (ending n v (take (m .state .head .used) (m .log)) bad) q o x e
         → Puts (runPrint n v words bad) p l x e
     unfolding runPrint
     run-made bad a b =
         rw (eq-eqb (numberOf (set-up .answer)) 0 (ap numberOf s))
-        (behind (rw (front, texts-are calls (set-up .state) (set-up .table) (set-up .log)) at a) (rw rows-are at b))
-
--- the used rows are within the log
-pub used-fits : (n v : ℕ) (t l words places : List ℕ) (m : MadeCalls) → WholeRun ticketRules book (Whole n v t l) n v 0 t l words places m
-    → (m .state .head .used ≤ length (m .log)) × (m .state .head .used ≡ length (take (m .state .head .used) (m .log)))
-used-fits n v t l words places m w =
-    let e : m .state .head .used ≡ length (take (m .state .head .used) (m .log)) = w .used-is ∙ sym (ap length (w .rows-are)) in
-    (omega (arith, length-take (m .state .head .used) (m .log)), e)
+        (behind
+        (rw (front n v lentCells lentRows words answerPlaces m s i, texts-are (callsIn words answerPlaces) (set-up .state) (set-up .table) (set-up .log)) at a)
+        (rw (rows-are n v lentCells lentRows words answerPlaces m s i) at b))

@@ -3,9 +3,8 @@ use super::log::put_log;
 use super::refusals::put_refusals;
 use common::Answer;
 use common::numbers::refusal_number;
-use fields::NONE;
-use fields::first_in;
 use fields::place_of;
+use fields::read_numbers;
 use lines::put_bad;
 use lines::put_refused;
 use script::read_calls;
@@ -83,10 +82,10 @@ fn put_input(out: &mut [u8], bytes: &[u8]) -> usize
     if end < bytes.len() {} else {
         return put_bad(out, 0, 1);
     }
-    let first = first_in(&bytes[..end]);
-    if (first.readers < NONE) & (first.start < NONE) {
-        let n = first.readers as u32;
-        let start = first.start as u32;
+    let mut first = [0u64; 2];
+    if read_numbers(&bytes[..end], &mut first) {
+        let n = first[0] as u32;
+        let start = first[1] as u32;
         return put_script(out, n, start, bytes, end + 1);
     }
     put_bad(out, 0, 1)

@@ -35,7 +35,7 @@ fn put_said(out: &mut [u8], at: usize, verdict: Verdict, places: &[u64]) -> usiz
 }
 
 // What the judge says of a log's rows. There are places for every order.
-pub(crate) fn put_verdict(out: &mut [u8], at: usize, rows: &[u64]) -> usize
+pub fn put_verdict(out: &mut [u8], at: usize, rows: &[u64]) -> usize
     ensures { λ r. ⌜ Puts (verdictLine (now (rows .entry))) at (now (out .entry)) (now (out .exit)) r ⌝ }
 {
     let mut places = [0u64; 4096];

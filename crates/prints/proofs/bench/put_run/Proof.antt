@@ -1,14 +1,15 @@
 use mathlib.Core.Path.{sym, _∙_}
-use Rattle.prints.proofs.Runs.{not-moved, run-refused, answers-fit, run-made, used-fits}
+use Rattle.prints.proofs.Runs.{not-moved, run-refused, run-made}
+use Rattle.prints.proofs.Made.{answers-fit, used-fits}
 use borrow.Author.Needs.{needs}
 use Rattle.prints.proofs.bench.put_run.Statement.{statement}
 use Rattle.prints.proofs.bench.put_run.Tie as tie
 
 array-share-prefix-answers : tie.Need-array-share-prefix-answers
-array-share-prefix-answers c = let r = c .before .before .before .before .before .before .before .before .run .ensures in answers-fit _ _ _ _ (sym (r .0) ∙ c .before .enum-told .given .1) (r .1) .0
+array-share-prefix-answers c = let r = c .before .before .before .before .before .before .before .before .run .ensures in answers-fit _ _ _ _ _ _ _ (sym (r .0) ∙ c .before .enum-told .given .1) (r .1) .0
 
 slice-aggregate-put-refusals : tie.Need-slice-aggregate-put-refusals
-slice-aggregate-put-refusals c = let r = c .before .before .before .before .before .before .before .before .before .run .ensures in answers-fit _ _ _ _ (sym (r .0) ∙ c .before .before .enum-told .given .1) (r .1) .1
+slice-aggregate-put-refusals c = let r = c .before .before .before .before .before .before .before .before .before .run .ensures in answers-fit _ _ _ _ _ _ _ (sym (r .0) ∙ c .before .before .enum-told .given .1) (r .1) .1
 
 array-share-prefix-log : tie.Need-array-share-prefix-log
 array-share-prefix-log c = used-fits _ _ _ _ _ _ _ (c .before .before .before .before .before .before .before .before .before .before .before .before .before .run .ensures .2 (c .before .before .before .before .before .before .enum-told .given .1)) .0

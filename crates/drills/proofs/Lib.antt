@@ -1,0 +1,4 @@
+pub mod Turns
+pub mod Runs
+pub mod Lists
+pub mod Input
