@@ -1,4 +1,6 @@
 // What both registers share: their answers and their state here, the calls and the book in specs/.
+#![tactic(auto)]
+
 use words::stamp::Stamp;
 
 pub mod numbers; // answers and calls as words
@@ -7,7 +9,7 @@ pub mod rows; // rows of the log
 pub mod others; // the other readers
 
 // The questions that are answered no: document 01's 1 to 8, 13 of a retired reader, and 14 of the counted register.
-#[derive(Drop)]
+#[derive(Clone, Copy)]
 pub enum Refusal {
     Readers,
     Cells,
@@ -22,7 +24,7 @@ pub enum Refusal {
 }
 
 // A call's answer: set up, begun or retired; the number of the sub-step made; or a refusal.
-#[derive(Drop)]
+#[derive(Clone, Copy)]
 pub enum Answer {
     Accepted,
     Moved(u8),
@@ -32,7 +34,7 @@ pub enum Answer {
 // The head of a state: whether it is the counted register's, the number of open operations, those of retired readers left out, the number
 // of readers, the log's length and its used rows. The number of open operations is second since there it makes the state no larger.
 #[repr(C)]
-#[derive(Drop)]
+#[derive(Clone, Copy)]
 pub struct Head {
     pub counted: bool,
     pub opens: u8,
@@ -45,7 +47,7 @@ pub struct Head {
 // beside which an open write has the tickets excluded by the cells read so far and, once it is taken, the new ticket; of the counted
 // register a count.
 #[repr(C)]
-#[derive(Drop)]
+#[derive(Clone, Copy)]
 pub struct Writer {
     pub active: bool,
     pub moved: u8,
@@ -61,7 +63,7 @@ pub struct Writer {
 // same stamp, and whether another reader's cell was found, which is then the result, and at the end that of the value and stamp to
 // store.
 #[repr(C)]
-#[derive(Drop)]
+#[derive(Clone, Copy)]
 pub struct Reader {
     pub retired: bool,
     pub active: bool,
@@ -76,7 +78,7 @@ pub struct Reader {
 
 // The state of either register. Of the readers the first n count.
 #[repr(C)]
-#[derive(Drop)]
+#[derive(Clone, Copy)]
 pub struct State {
     pub head: Head,
     pub writer: Writer,

@@ -10,7 +10,7 @@ use common::numbers::answer_word;
 use common::{Answer, State};
 use register::calls::Called;
 
-// What a set_up gives over a state, which stays if it is refused.
+// What a set-up gives over a state, which stays if it is refused.
 fn over(s: State, called: Called) -> Worded
     ensures { (result.word ≡ answer_word called.answer) × (result.state ≡ unless_refused called.answer s called.state) }
 {

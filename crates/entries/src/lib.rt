@@ -1,6 +1,8 @@
 // The register's entries over a lent state, for a host in C too: "A thin entry takes the register's state as a lent record and updates
 // that record itself; all else passes state by value." Each copies the record, calls the register by value, and stores the state that
 // this returned. The answer is a word: above, the refusal number or 0; below, the sub-step's number or 0.
+#![tactic(auto)]
+
 mod by_value; // the calls by value
 pub mod local; // the entries over a state in a local
 
@@ -15,7 +17,7 @@ use common::numbers::answer_word;
 use register::calls::Called;
 
 // A call's answer as a word, and the state to hand to the next one.
-#[derive(Drop)]
+#[derive(Clone, Copy)]
 pub struct Worded {
     pub word: u64,
     pub state: State,
@@ -34,8 +36,7 @@ pub fn in_word(called: Called) -> Worded
 }
 
 // A fresh register of n readers with a start reading. If it is refused the lent state stays, too.
-#[unsafe(no_mangle)]
-pub extern "C" fn register_set_up(
+pub fn register_set_up(
     state: &mut State,
     table: &mut [u64],
     log: &mut [u64],
@@ -50,8 +51,7 @@ pub extern "C" fn register_set_up(
 }
 
 // A fresh counted register, with a fresh stamp too.
-#[unsafe(no_mangle)]
-pub extern "C" fn counted_set_up(
+pub fn counted_set_up(
     state: &mut State,
     table: &mut [u64],
     log: &mut [u64],
@@ -67,8 +67,7 @@ pub extern "C" fn counted_set_up(
 }
 
 // Processor p begins: the writer, 0, a write of the value, and a reader a read.
-#[unsafe(no_mangle)]
-pub extern "C" fn register_begin(
+pub fn register_begin(
     state: &mut State,
     table: &mut [u64],
     log: &mut [u64],
@@ -83,13 +82,7 @@ pub extern "C" fn register_begin(
 }
 
 // A sub-step of processor p.
-#[unsafe(no_mangle)]
-pub extern "C" fn register_step(
-    state: &mut State,
-    table: &mut [u64],
-    log: &mut [u64],
-    p: u32,
-) -> u64
+pub fn register_step(state: &mut State, table: &mut [u64], log: &mut [u64], p: u32) -> u64
     ensures { word_outcome result state.new table.new log.new ≡ in_word (step_of state.old table.old log.old p) }
 {
     let told = by_value::step(*state, table, log, p);
@@ -98,13 +91,7 @@ pub extern "C" fn register_step(
 }
 
 // Reader p is retired, for good.
-#[unsafe(no_mangle)]
-pub extern "C" fn register_retire(
-    state: &mut State,
-    table: &mut [u64],
-    log: &mut [u64],
-    p: u32,
-) -> u64
+pub fn register_retire(state: &mut State, table: &mut [u64], log: &mut [u64], p: u32) -> u64
     ensures { word_outcome result state.new table.new log.new ≡ in_word (retire_of state.old table.old log.old p) }
 {
     let told = by_value::retire(*state, table, log, p);

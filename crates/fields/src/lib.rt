@@ -1,4 +1,6 @@
 // The numbers and fields of lines.
+#![tactic(auto)]
+
 ghost use Rattle.std.specs.Prelude.{◌≡◌, ◌+◌, ◌≤◌, length, set};
 ghost use Rattle.std.proofs.lemmas.List.Edits.{sets};
 ghost use Rattle.fields.specs.Fields.{place_of, none, number_in, numbers_in, each_number, all_numbers, first_numbers, one_line_of};

@@ -1,8 +1,9 @@
 // The figures of a drill before it is run: what is answered, what the figures are and what they mean, definitions in specs/, theorems in proofs/. The
 // code is the crate `sizes`.
+#![tactic(auto)]
 
 // The log rows with which no begin is refused 7; the least and the most words that the operations move.
-#[derive(Drop)]
+#[derive(Clone, Copy)]
 pub struct Figures {
     pub rows: u32,
     pub least: u32,
@@ -10,7 +11,7 @@ pub struct Figures {
 }
 
 // Refused is question 1's no. Larger: more than 2,000 writes or reads. TooLong: more rows than 4,096.
-#[derive(Drop)]
+#[derive(Clone, Copy)]
 pub enum Sizing {
     Refused,
     Larger,

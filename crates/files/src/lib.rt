@@ -1,4 +1,6 @@
 // A stored log as a file: what the program `strips` makes of its input, put into lent bytes. What does not fit is left out.
+#![tactic(auto)]
+
 ghost use Rattle.std.specs.Prelude.{◌≡◌, ◌≤◌, ◌%◌, length, take};
 ghost use Rattle.logbytes.specs.Bytes.{rows_of, bytes_of};
 ghost use Rattle.lines.specs.Lines.{Puts, Within};
@@ -10,7 +12,7 @@ use logbytes::{byte_at, rows_in};
 use store::rows::{restore_strips, store_strips};
 
 // A refusal's number, or 0, and how many bytes were put.
-#[derive(Drop)]
+#[derive(Clone, Copy)]
 pub struct Filed {
     pub number: u32,
     pub count: usize,

@@ -1,4 +1,6 @@
-// Both registers for a host in C: set_up and a list of calls, in lent buffers.
+// Both registers for a host in C: set-up and a list of calls, in lent buffers.
+#![tactic(auto)]
+
 ghost use Rattle.std.specs.Prelude.{◌≡◌, ◌+◌, ◌*◌, ◌^◌, ◌≤◌};
 ghost use Rattle.words.specs.Bits.{low};
 ghost use Rattle.common.specs.Answers.{number_of};

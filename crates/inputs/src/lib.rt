@@ -1,13 +1,19 @@
 // The inputs of a program: the files that its arguments name, where `-` is standard input; or standard input alone, if it has no argument.
-// Inputs are numbered from 1, as the arguments are. The operating system's part is assumed, as its libraries say it.
+// Inputs are numbered from 1, as the arguments are. The operating system's part is assumed, as the standard library says it.
+#![tactic(auto)]
+
 ghost use Rattle.std.specs.Prelude.{◌≡◌, ◌≤◌, length, replicate};
-ghost use Rattle.io.specs.Counts.{IsPrefixLen};
+ghost use Rattle.inputs.specs.Counts.{IsPrefixLen};
 ghost use Rattle.words.specs.Same.{same};
 
-use libc::STDIN_FILENO;
+use std::env::{Env, FillError};
+use std::fmt::Display;
+use std::fs;
+use std::fs::Files;
+use std::io::{Eprint, Input as StandardInput, Read};
 
 // What was read: whether there is such an input, and how many bytes are its.
-#[derive(Drop)]
+#[derive(Clone, Copy)]
 pub struct Input {
     pub found: bool,
     pub count: usize,
@@ -46,73 +52,122 @@ pub fn text_bytes() -> [u8; 65537]
     [0; 65537]
 }
 
-// No input: a line on standard error says why.
-fn missing(what: &[u8], bytes: &[u8]) -> Input
+// Room for an argument: no path is longer.
+fn argument_bytes() -> [u8; 4096]
+    ensures { 4096 ≡ length result }
+{
+    [0; 4096]
+}
+
+// Reads until the bytes are full, the input ends or a read fails: how many are read.
+fn read_full<R: Read>(reader: &mut R, bytes: &mut [u8]) -> usize
+    ensures { IsPrefixLen result bytes.new }
+{
+    let mut done = 0;
+    while done < bytes.len() {
+        match reader.read(&mut bytes[done..]) {
+            Ok(0) => return done,
+            Ok(n) => done += n,
+            Err(_) => return done,
+        }
+    }
+    done
+}
+
+// No input: a line on standard error says what it is, and why.
+fn missing<R: Eprint, D: Display + Drop>(rt: &R, what: &str, why: D, bytes: &[u8]) -> Input
     ensures { IsPrefixLen result.count bytes.now }
 {
-    os::fail(what);
+    let _ = eprintln!(rt; "{what}: {why}");
     Input {
         found: false,
         count: 0,
     }
 }
 
-// What can be read from fd.
-fn read_from(fd: i32, bytes: &mut [u8]) -> Input
+// What can be read from standard input: how many bytes, as many as there is room for.
+pub fn read_standard<R: StandardInput>(rt: &R, bytes: &mut [u8]) -> usize
+    ensures { IsPrefixLen result bytes.new }
+{
+    let mut reader = rt.reader();
+    read_full(&mut reader, bytes)
+}
+
+// Standard input, as an input.
+fn read_only<R: StandardInput>(rt: &R, bytes: &mut [u8]) -> Input
     ensures { IsPrefixLen result.count bytes.new }
 {
-    let n = io::read_full(fd, bytes);
+    let count = read_standard(rt, bytes);
     Input {
         found: true,
-        count: n,
+        count: count,
     }
 }
 
 // What can be read from a file.
-fn read_file(path: &[u8], bytes: &mut [u8]) -> Input
+fn read_file<R: Files + Eprint>(rt: &R, path: &str, bytes: &mut [u8]) -> Input
     ensures { IsPrefixLen result.count bytes.new }
 {
-    let fd = os::open_read(path);
-    if fd < 0 {
-        return missing(path, bytes);
+    let mut file = match fs::open(rt, path) {
+        Ok(file) => file,
+        Err(error) => return missing(rt, path, error, bytes),
+    };
+    let count = read_full(&mut file, bytes);
+    Input {
+        found: true,
+        count: count,
     }
-    let input = read_from(fd, bytes);
-    libc::close(fd);
-    input
 }
 
-// What can be read from the file that argument k names.
-fn read_argument(k: usize, bytes: &mut [u8]) -> Input
+// What can be read from the file that argument k names. A path is UTF-8 text of at most 4,095 bytes.
+fn read_argument<R: Env + Files + StandardInput + Eprint>(
+    rt: &R,
+    k: usize,
+    bytes: &mut [u8],
+) -> Input
     ensures { IsPrefixLen result.count bytes.new }
 {
-    let mut argument = io::buffer();
-    let n = os::arg(k, &mut argument);
-    if os::errno() != 0 {
-        return missing(b"argument", bytes);
-    }
+    let mut argument = argument_bytes();
+    let n = match rt.arg(k, &mut argument) {
+        Ok(n) => n,
+        Err(_) => return missing(rt, "argument", "there is none, or it is too long", bytes),
+    };
     if is_same(&argument[..n], b"-") {
-        return read_from(STDIN_FILENO, bytes);
+        return read_only(rt, bytes);
     }
-    read_file(&argument[..n], bytes)
+    match str::from_utf8(&argument[..n]) {
+        Ok(path) => read_file(rt, path, bytes),
+        Err(error) => missing(rt, "argument", error, bytes),
+    }
+}
+
+// Whether there is an argument k.
+fn is_argument<R: Env>(rt: &R, k: usize) -> bool {
+    let mut argument = [0u8; 1];
+    match rt.arg(k, &mut argument) {
+        Ok(_) | Err(FillError::TooLong) => true,
+        Err(FillError::NotPresent) => false,
+    }
 }
 
 // Input k, as much of it as there are bytes for.
-pub fn read(k: usize, bytes: &mut [u8]) -> Input
+pub fn read<R: Env + Files + StandardInput + Eprint>(rt: &R, k: usize, bytes: &mut [u8]) -> Input
     ensures { IsPrefixLen result.count bytes.new }
 {
-    if os::arg_count() < 2 {
-        return read_from(STDIN_FILENO, bytes);
+    if !is_argument(rt, 1) {
+        return read_only(rt, bytes);
     }
-    read_argument(k, bytes)
+    read_argument(rt, k, bytes)
 }
 
 // The number behind the last input's.
-pub fn end() -> usize
+pub fn end<R: Env>(rt: &R) -> usize
     ensures { 2 ≤ result }
 {
-    let n = os::arg_count();
-    if n < 2 {
-        return 2;
+    for k in 2..usize::MAX {
+        if !is_argument(rt, k) {
+            return k;
+        }
     }
-    n
+    usize::MAX
 }

@@ -6,8 +6,7 @@ ghost use Rattle.judging.specs.Meaning.{BytesMean};
 use super::rows::number;
 
 // 0, or the number of the question answered no: 9, 10 or 12. A length that is not a multiple of 8 is 9, as no rows are.
-#[unsafe(no_mangle)]
-pub extern "C" fn judge_bytes(bytes: &[u8]) -> u32
+pub fn judge_bytes(bytes: &[u8]) -> u32
     ensures number { result ≡ bytes_number bytes.now }
     ensures meaning { BytesMean bytes.now result }
 {

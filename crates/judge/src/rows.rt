@@ -133,8 +133,7 @@ fn value_of(verdict: Verdict) -> u64
 }
 
 // The verdict as a word, and the order in the lent places, for a host in C.
-#[unsafe(no_mangle)]
-pub extern "C" fn judge_rows(rows: &[u64], order: &mut [u64]) -> u64
+pub fn judge_rows(rows: &[u64], order: &mut [u64]) -> u64
     ensures word { result ≡ answer_word (answer_of rows.now (length order.old)) }
     ensures order { order.new ≡ order_of rows.now order.old }
 {

@@ -1,8 +1,9 @@
 // The judge's answers. What each means and how an order is found are definitions in specs/; in proofs/ it is shown that the order found is the
 // one that is meant. The code is the crate `judge`.
+#![tactic(auto)]
 
 // What the judge says of a log.
-#[derive(Drop)]
+#[derive(Clone, Copy)]
 pub enum Verdict {
     // It has an order, of so many operations.
     Accepted(usize),

@@ -1,4 +1,6 @@
 // What the two registers differ in, as far as one processor goes: each function asks the rules of the kind it is told.
+#![tactic(auto)]
+
 ghost use Rattle.std.specs.Prelude.{◌≡◌};
 ghost use Rattle.kinds.specs.Rules.{rules_of};
 

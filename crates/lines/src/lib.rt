@@ -1,5 +1,7 @@
 // The lines that the programs print, put into lent bytes. What does not fit is left out, and each function gives the place behind what it
 // has put.
+#![tactic(auto)]
+
 ghost use mathlib.Core.List.{[], ◌∷◌, flat_map};
 ghost use Rattle.std.specs.Prelude.{◌≡◌};
 ghost use Rattle.lines.specs.Lines.{decimal, line_of, bad_line, refused_line, no_order_line, field, order_line, letter_of, reader_text, reading_text, row_line, readers_line, Puts};

@@ -1,4 +1,6 @@
 // Lists of calls, of either register.
+#![tactic(auto)]
+
 ghost use Rattle.std.specs.Prelude.{◌≡◌};
 ghost use Rattle.common.specs.Answers.{reply};
 ghost use Rattle.common.specs.CallWords.{call_in};
@@ -20,14 +22,14 @@ use register::calls::{Called, begin_read, begin_write, retire, step};
 use register::set_up::set_up_of;
 
 // How many calls were made, and the state behind them.
-#[derive(Drop)]
+#[derive(Clone, Copy)]
 pub struct Made {
     pub made: usize,
     pub state: State,
 }
 
 // What a run gives: set-up's answer, and its calls.
-#[derive(Drop)]
+#[derive(Clone, Copy)]
 pub struct Ran {
     pub answer: Answer,
     pub calls: Made,
@@ -84,7 +86,7 @@ fn make_calls(
     }
 }
 
-// Set-up of a kind, and then the calls in the words, with their answers; no call if set_up is refused.
+// Set-up of a kind, and then the calls in the words, with their answers; no call if set-up is refused.
 fn run_of(
     counted: bool,
     n: u32,
@@ -118,7 +120,7 @@ fn run_of(
     }
 }
 
-// Set-up, and then the calls in the words, with their answers; no call if set_up is refused. A word's upper half is the call's kind, 1
+// Set-up, and then the calls in the words, with their answers; no call if set-up is refused. A word's upper half is the call's kind, 1
 // begin a write, 2 begin a read, 3 a sub-step, 4 retire a reader, and its lower half the number. An answer's upper half is the refusal
 // number, and its lower half the sub-step's. The calls end at the first word that is none, and where the answers have no place left.
 pub fn run(

@@ -1,4 +1,6 @@
 // A log as bytes.
+#![tactic(auto)]
+
 ghost use Rattle.std.specs.Prelude.{◌++◌, ◌≡◌, ◌+◌, ◌^◌, ◌<◌, ◌≤◌, min, length, get_or, drop};
 ghost use Rattle.logbytes.specs.Bytes.{half_at, word_at, read_into, rows_in, bytes_of};
 

@@ -1,4 +1,6 @@
 // A reader of the first register, by value: what each word that it reads makes of it, and the cells that it stores.
+#![tactic(auto)]
+
 ghost use Rattle.std.specs.Prelude.{◌≡◌};
 ghost use Rattle.words.specs.Stamp.{none};
 ghost use Rattle.words.specs.Cell.{pack_cell};

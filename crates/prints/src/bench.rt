@@ -1,4 +1,4 @@
-// The bench: set_up, the calls, and what comes of them.
+// The bench: set-up, the calls, and what comes of them.
 ghost use Rattle.std.specs.Prelude.{◌≡◌, ◌≤◌, length, take};
 ghost use Rattle.lines.specs.Lines.{Puts, Within};
 ghost use Rattle.printing.specs.Print.{bench_print};
@@ -33,7 +33,7 @@ fn put_ending(out: &mut [u8], at: usize, n: u32, start: u32, rows: &[u64], bad: 
     put_bad(out, at, bad)
 }
 
-// A register with n readers and a start reading, and the calls made on it. A refused set_up is the whole print; no set_up answers with a
+// A register with n readers and a start reading, and the calls made on it. A refused set-up is the whole print; no set-up answers with a
 // sub-step.
 fn put_run(out: &mut [u8], n: u32, start: u32, words: &[u64], bad: u64) -> usize
     ensures { Puts (run_print n start words.now bad) 0 out.old out.new result }

@@ -1,4 +1,6 @@
 // What the programs print, put into lent bytes. What does not fit is left out, and each function gives the place behind what it has put.
+#![tactic(auto)]
+
 pub mod verdict; // the line of the judge's verdict
 pub mod sheet; // the course sheet
 pub mod bench; // the bench's print

@@ -9,7 +9,7 @@ use common::limits::is_processor;
 use common::{Refusal, State};
 
 // Whether all are passed, or the first that is not.
-#[derive(Drop)]
+#[derive(Clone, Copy)]
 pub enum Asked {
     Yes,
     No(Refusal),

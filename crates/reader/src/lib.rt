@@ -1,4 +1,6 @@
 // A fresh reader, one that begins a read, one that is retired, and question 4 of one reader.
+#![tactic(auto)]
+
 ghost use Rattle.std.specs.Prelude.{◌≡◌};
 ghost use Rattle.common.specs.State.{as_counted, reader_begins, retires};
 ghost use Rattle.common.specs.SetUp.{fresh_reader};

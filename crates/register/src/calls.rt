@@ -21,7 +21,7 @@ use steps::{read_step, write_step};
 use writer::state::open_writer;
 
 // What a call gives: its answer, and the state to hand to the next one.
-#[derive(Drop)]
+#[derive(Clone, Copy)]
 pub struct Called {
     pub answer: Answer,
     pub state: State,

@@ -1,4 +1,6 @@
-// Both registers: set_up, begins, sub-steps and retirements over a state by value, a lent table and a lent log.
+// Both registers: set-up, begins, sub-steps and retirements over a state by value, a lent table and a lent log.
+#![tactic(auto)]
+
 mod rows; // the log's rows
 pub mod calls; // begins, sub-steps and retirements
-pub mod set_up; // set_up
+pub mod set_up; // set-up

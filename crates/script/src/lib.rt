@@ -1,11 +1,13 @@
 // The calls of the input.
+#![tactic(auto)]
+
 ghost use Rattle.std.specs.Prelude.{◌≡◌, ◌<◌};
 ghost use Rattle.script.specs.Script.{kind_in, call_in, Reads};
 
 use fields::{NONE, number_in, place_of};
 
 // How many calls were read, and the place behind their lines.
-#[derive(Drop)]
+#[derive(Clone, Copy)]
 pub struct Script {
     pub calls: usize,
     pub end: usize,

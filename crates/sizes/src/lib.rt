@@ -1,4 +1,6 @@
 // The figures of a drill before it is run, and what the program `sizing` prints of them.
+#![tactic(auto)]
+
 pub mod print; // the input and the whole print
 
 ghost use Rattle.std.specs.Prelude.{◌≡◌, ◌≤◌, min};
@@ -7,7 +9,7 @@ ghost use Rattle.figures.specs.Sizing.{rows_for, write_words, read_words, second
 
 use figures::{Figures, Sizing};
 
-// Row 0, and two rows for each operation; set_up takes no fewer than 3.
+// Row 0, and two rows for each operation; set-up takes no fewer than 3.
 fn rows_for(writes: u32, reads: u32) -> u32
     requires { (writes ≤ 2000) × (reads ≤ 2000) }
     ensures { result ≡ rows_for writes reads }

@@ -1,8 +1,10 @@
 // Sizing a drill: reads `n writes reads` and prints the figures of both registers, for each of its inputs: see the crate `inputs`.
+#![tactic(auto)]
+
 ghost use Rattle.std.specs.Prelude.{◌≡◌, length};
 
-use libc::STDOUT_FILENO;
 use sizes::print::sizing_print;
+use std::io;
 
 // Room for every print.
 fn print_bytes() -> [u8; 256]
@@ -12,22 +14,22 @@ fn print_bytes() -> [u8; 256]
 }
 
 // The print of input k. Of an input that is longer than 65,536 bytes one more is read.
-fn print_input(k: usize) {
+fn print_input(rt: &HostRuntime, k: usize) -> io::Result<()> {
     let mut bytes = inputs::text_bytes();
-    let input = inputs::read(k, &mut bytes);
+    let input = inputs::read(rt, k, &mut bytes);
     if input.found {
         let count = input.count;
         let mut out = print_bytes();
         let n = sizing_print(&bytes[..count], &mut out);
-        io::write_all(STDOUT_FILENO, &out[..n]);
+        rt.write_all(&out[..n])?;
     }
+    Ok(())
 }
 
-fn main() {
-    let end = inputs::end();
-    let mut k = 1;
-    while k < end {
-        print_input(k);
-        k += 1;
+fn main(rt: HostRuntime) -> io::Result<()> {
+    let end = inputs::end(&rt);
+    for k in 1..end {
+        print_input(&rt, k)?;
     }
+    Ok(())
 }

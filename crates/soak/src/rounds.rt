@@ -1,4 +1,4 @@
-// A round: set_up, the calls, and the judge on the used rows.
+// A round: set-up, the calls, and the judge on the used rows.
 ghost use Rattle.std.specs.Prelude.{◌≡◌, ◌<◌, ◌≤◌, length};
 
 use super::source::{fill, source_of};
@@ -10,8 +10,8 @@ use lists::{Ran, run, run_counted};
 // What buffers hold before anything is written to them.
 const MARK: u64 = 0xFFFF_FFFF_FFFF_FFFF;
 
-// What a set_up is given: which register, its readers and its start reading; of the counted one its fresh stamp.
-#[derive(Drop)]
+// What a set-up is given: which register, its readers and its start reading; of the counted one its fresh stamp.
+#[derive(Clone, Copy)]
 struct Given {
     counted: bool,
     n: u32,

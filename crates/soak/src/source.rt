@@ -15,7 +15,7 @@ const RETIRE: u64 = 0x4_0000_0000;
 
 // The generator's word, the processor whose turn it is, the sub-steps left of its burst, the processor passed over, the life left until one
 // is unplugged, whether that is the one whose turn it is, and the call.
-#[derive(Drop)]
+#[derive(Clone, Copy)]
 pub(crate) struct Source {
     pub x: u64,
     pub processor: u64,
@@ -203,10 +203,8 @@ pub(crate) fn fill(words: &mut [u64], from: Source, n: u64, burst: u64, span: u6
     requires { (n ≤ 16) × (0 < burst) × (0 < span) }
 {
     let mut s = from;
-    let mut i = 0;
-    while i < words.len() {
+    for word in words.iter_mut() {
         s = next(s, n, burst, span);
-        words[i] = s.word;
-        i += 1;
+        *word = s.word;
     }
 }

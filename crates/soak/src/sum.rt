@@ -11,16 +11,14 @@ pub(crate) fn mix(x: u64) -> u64 {
 
 // A checksum, with one more word.
 pub(crate) fn fold(sum: u64, word: u64) -> u64 {
-    std::num::wrapping_add_u64(mix(sum ^ word), SEED)
+    mix(sum ^ word).wrapping_add(SEED)
 }
 
 // A checksum, with the words.
 pub(crate) fn fold_all(sum: u64, words: &[u64]) -> u64 {
     let mut s = sum;
-    let mut i = 0;
-    while i < words.len() {
-        s = fold(s, words[i]);
-        i += 1;
+    for word in words {
+        s = fold(s, *word);
     }
     s
 }

@@ -1,4 +1,6 @@
 // One sub-step of one processor over a lent table, of either register.
+#![tactic(auto)]
+
 ghost use Rattle.std.specs.Prelude.{◌≡◌, true, ◌&&◌, ◌≤◌, length};
 ghost use Rattle.kinds.specs.Rules.{rules_of};
 ghost use Rattle.steps.specs.Step.{serves, writes, reads, write_step_of, read_step_of};

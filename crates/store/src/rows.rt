@@ -68,8 +68,7 @@ fn number_of(answer: Stripped) -> u32
 }
 
 // `store` for a host in C: 0, or the number of the question answered no.
-#[unsafe(no_mangle)]
-pub extern "C" fn store_strips(rows: &[u64], bytes: &mut [u8], strips: &mut [u64]) -> u32
+pub fn store_strips(rows: &[u64], bytes: &mut [u8], strips: &mut [u64]) -> u32
     ensures leaves { Stored rows.now bytes.old strips.old bytes.new strips.new result }
     ensures meaning { StoreSays rows.now bytes.old strips.old bytes.new strips.new result }
 {
@@ -77,8 +76,7 @@ pub extern "C" fn store_strips(rows: &[u64], bytes: &mut [u8], strips: &mut [u64
 }
 
 // `restore` for a host in C.
-#[unsafe(no_mangle)]
-pub extern "C" fn restore_strips(bytes: &[u8], strips: &[u64], log: &mut [u64]) -> u32
+pub fn restore_strips(bytes: &[u8], strips: &[u64], log: &mut [u64]) -> u32
     ensures leaves { Restored bytes.now strips.now log.old log.new result }
     ensures meaning { RestoreSays bytes.now strips.now log.old log.new result }
 {

@@ -1,8 +1,9 @@
 // Logs stored in strips: what is stored, what is put back, and the answers, as definitions in specs/; in proofs/ it is shown that the strips put
 // back are the log. The code is the crate `store`.
+#![tactic(auto)]
 
 // What storing or restoring says.
-#[derive(Drop)]
+#[derive(Clone, Copy)]
 pub enum Stripped {
     // It is done.
     Done,

@@ -1,7 +1,7 @@
 // What is done in a trial: acts, each of four numbers, the kind and up to three more.
 //   1 to 4    W, R, S and U with a number; then 1 if the state stays as it was for the next call, 2 if the call is not printed
 //   5         lends so many cells of the table and rows of the log, which hold marks
-//   6, 7      set_up with so many readers, of the counted register with a fresh stamp, and start reading 7; last 1 if it is printed
+//   6, 7      set-up with so many readers, of the counted register with a fresh stamp, and start reading 7; last 1 if it is printed
 //   8         a field of processor p is changed, see `changes`
 //   9, 10     a cell of the table, a row of the log, by its place and its halves
 //   11        prints the cells
@@ -19,8 +19,9 @@ use common::State;
 use common::numbers::answer_word;
 use register::calls::Called;
 use register::set_up::{set_up, set_up_counted};
+use std::io;
 
-#[derive(Drop)]
+#[derive(Clone, Copy)]
 struct Act {
     kind: u64,
     a: u64,
@@ -29,7 +30,7 @@ struct Act {
 }
 
 // The register's state, and how many cells and rows are lent.
-#[derive(Drop)]
+#[derive(Clone, Copy)]
 struct Trial {
     state: State,
     cells: usize,
@@ -49,15 +50,28 @@ fn with_lent(t: Trial, cells: usize, rows: usize) -> Trial {
     next
 }
 
-fn call(t: Trial, act: Act, table: &mut [u64], log: &mut [u64]) -> Trial {
-    let s = try_call(act.b == 2, (act.kind << 32) | act.a, t.state, table, log);
+fn call(
+    rt: &impl Print,
+    t: Trial,
+    act: Act,
+    table: &mut [u64],
+    log: &mut [u64],
+) -> io::Result<Trial> {
+    let s = try_call(
+        rt,
+        act.b == 2,
+        (act.kind << 32) | act.a,
+        t.state,
+        table,
+        log,
+    )?;
     if act.b == 1 {
-        return t;
+        return Ok(t);
     }
-    with_state(t, s)
+    Ok(with_state(t, s))
 }
 
-// A set_up, by its kind.
+// A set-up, by its kind.
 fn set_up_of(act: Act, table: &mut [u64], log: &mut [u64]) -> Called {
     let n = (act.a % 4294967296) as u32;
     if act.kind == 6 {
@@ -67,20 +81,26 @@ fn set_up_of(act: Act, table: &mut [u64], log: &mut [u64]) -> Called {
 }
 
 // Its answer, and how many words it wrote of buffers of marks.
-fn print_set_up(word: u64, table: &[u64], log: &[u64]) {
-    print_answer(word);
-    print_with(b", cells written ", written(table));
-    print_with(b", rows written ", written(log));
+fn print_set_up(rt: &impl Print, word: u64, table: &[u64], log: &[u64]) -> io::Result<()> {
+    print_answer(rt, word)?;
+    print_with(rt, b", cells written ", written(table))?;
+    print_with(rt, b", rows written ", written(log))
 }
 
-fn prepare(t: Trial, act: Act, table: &mut [u64], log: &mut [u64]) -> Trial {
+fn prepare(
+    rt: &impl Print,
+    t: Trial,
+    act: Act,
+    table: &mut [u64],
+    log: &mut [u64],
+) -> io::Result<Trial> {
     let o = set_up_of(act, table, log);
     let answer = o.answer;
     let s = o.state;
     if act.c == 1 {
-        print_set_up(answer_word(answer), table, log);
+        print_set_up(rt, answer_word(answer), table, log)?;
     }
-    with_state(t, s)
+    Ok(with_state(t, s))
 }
 
 // A word, by its place and its halves.
@@ -92,59 +112,71 @@ fn put(words: &mut [u64], act: Act) {
 }
 
 // The verdict on the first rows of the log.
-fn judge_first(log: &[u64], rows: usize, places: usize) {
+fn judge_first(rt: &impl Print, log: &[u64], rows: usize, places: usize) -> io::Result<()> {
     let count = fewer(rows, log.len());
-    try_log(&log[0..count], places);
+    try_log(rt, &log[0..count], places)
 }
 
-fn judge_used(s: State, printed: u64, log: &[u64]) {
-    print(b"; log");
+fn judge_used(rt: &impl Print, s: State, printed: u64, log: &[u64]) -> io::Result<()> {
+    print(rt, b"; log")?;
     let head = s.head;
     let used = fewer(head.used, log.len());
     if printed == 1 {
-        print_rows(&log[0..used]);
+        print_rows(rt, &log[0..used])?;
     }
-    try_log(&log[0..used], 16);
+    try_log(rt, &log[0..used], 16)
 }
 
 // An act that leaves table and log as they are.
-fn show(t: Trial, act: Act, table: &[u64], log: &[u64]) {
+fn show(rt: &impl Print, t: Trial, act: Act, table: &[u64], log: &[u64]) -> io::Result<()> {
     let kind = act.kind;
     match kind {
-        11 => print_cells(table),
-        12 => judge_used(t.state, act.a, log),
-        13 => judge_first(log, act.a as usize, act.b as usize),
-        _ => try_bytes(log, act.a as usize),
+        11 => print_cells(rt, table),
+        12 => judge_used(rt, t.state, act.a, log),
+        13 => judge_first(rt, log, act.a as usize, act.b as usize),
+        _ => try_bytes(rt, log, act.a as usize),
     }
 }
 
 // An act with the cells and rows that are lent.
-fn act_on(t: Trial, act: Act, table: &mut [u64], log: &mut [u64]) -> Trial {
+fn act_on(
+    rt: &impl Print,
+    t: Trial,
+    act: Act,
+    table: &mut [u64],
+    log: &mut [u64],
+) -> io::Result<Trial> {
     let kind = act.kind;
     match kind {
-        1 | 2 | 3 | 4 => call(t, act, table, log),
-        5 => with_lent(t, act.a as usize, act.b as usize),
-        6 | 7 => prepare(t, act, table, log),
-        8 => with_state(t, changed(t.state, act.a, act.b, act.c)),
+        1 | 2 | 3 | 4 => call(rt, t, act, table, log),
+        5 => Ok(with_lent(t, act.a as usize, act.b as usize)),
+        6 | 7 => prepare(rt, t, act, table, log),
+        8 => Ok(with_state(t, changed(t.state, act.a, act.b, act.c))),
         9 => {
             put(table, act);
-            t
+            Ok(t)
         }
         10 => {
             put(log, act);
-            t
+            Ok(t)
         }
         _ => {
-            show(t, act, table, log);
-            t
+            show(rt, t, act, table, log)?;
+            Ok(t)
         }
     }
 }
 
-fn act_lent(t: Trial, act: Act, table: &mut [u64], log: &mut [u64]) -> Trial {
+fn act_lent(
+    rt: &impl Print,
+    t: Trial,
+    act: Act,
+    table: &mut [u64],
+    log: &mut [u64],
+) -> io::Result<Trial> {
     let cells = fewer(t.cells, table.len());
     let rows = fewer(t.rows, log.len());
-    act_on(t, act, &mut table[0..cells], &mut log[0..rows])
+    act_on(rt, t, act, &mut table[0..cells], &mut log[0..rows])
 }
 
 // The act at place k.
@@ -160,27 +192,32 @@ fn act_at(numbers: &[u64; 256], k: usize) -> Act
 }
 
 // The acts up to the first that is none, from a state on.
-fn act_all(s: State, numbers: &[u64; 256], table: &mut [u64], log: &mut [u64]) {
+fn act_all(
+    rt: &impl Print,
+    s: State,
+    numbers: &[u64; 256],
+    table: &mut [u64],
+    log: &mut [u64],
+) -> io::Result<()> {
     let mut t = Trial {
         state: s,
         cells: 0,
         rows: 0,
     };
-    let mut k = 0;
-    while k < 64 {
+    for k in 0usize..64 {
         let act = act_at(numbers, k);
         if act.kind == 0 {
-            return;
+            return Ok(());
         }
-        t = act_lent(t, act, table, log);
-        k += 1;
+        t = act_lent(rt, t, act, table, log)?;
     }
+    Ok(())
 }
 
-// From the state of a refused set_up on, with buffers of marks.
-pub(crate) fn try_acts(numbers: &[u64; 256]) {
+// From the state of a refused set-up on, with buffers of marks.
+pub(crate) fn try_acts(rt: &impl Print, numbers: &[u64; 256]) -> io::Result<()> {
     let mut table = marks();
     let mut log = marks();
     let o = set_up(0, 0, &mut table, &mut log);
-    act_all(o.state, numbers, &mut table, &mut log);
+    act_all(rt, o.state, numbers, &mut table, &mut log)
 }

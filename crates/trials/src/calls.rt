@@ -6,6 +6,7 @@ use common::State;
 use entries::local::{begin, retire, step};
 use entries::{Worded, in_word};
 use register::calls::begin_read;
+use std::io;
 
 // The processor that begins: a reader a read, and the writer a write.
 fn beginner(kind: u64, number: u32) -> u32 {
@@ -32,46 +33,48 @@ fn make_call(word: u64, s: State, table: &mut [u64], log: &mut [u64]) -> Worded 
     begin(s, table, log, beginner(kind, number), number)
 }
 
-fn print_call(word: u64) {
+fn print_call(rt: &impl Print, word: u64) -> io::Result<()> {
     let kind = word / 4294967296;
     if kind == 1 {
-        print(b"; W");
+        print(rt, b"; W")?;
     } else if kind == 2 {
-        print(b"; R");
+        print(rt, b"; R")?;
     } else if kind == 3 {
-        print(b"; S");
+        print(rt, b"; S")?;
     } else {
-        print(b"; U");
+        print(rt, b"; U")?;
     }
-    print_with(b" ", word % 4294967296);
+    print_with(rt, b" ", word % 4294967296)
 }
 
 // A refusal alters nothing: says whether it did.
-fn print_altered(answer: u64, unaltered: bool) {
-    if refusal_in(answer) != 0 {
-        if unaltered {
-            print(b", unaltered");
-        } else {
-            print(b", altered");
-        }
+fn print_altered(rt: &impl Print, answer: u64, unaltered: bool) -> io::Result<()> {
+    if refusal_in(answer) == 0 {
+        return Ok(());
+    }
+    if unaltered {
+        print(rt, b", unaltered")
+    } else {
+        print(rt, b", altered")
     }
 }
 
-fn print_called(word: u64, answer: u64, unaltered: bool) {
-    print_call(word);
-    print(b": ");
-    print_answer(answer);
-    print_altered(answer, unaltered);
+fn print_called(rt: &impl Print, word: u64, answer: u64, unaltered: bool) -> io::Result<()> {
+    print_call(rt, word)?;
+    print(rt, b": ")?;
+    print_answer(rt, answer)?;
+    print_altered(rt, answer, unaltered)
 }
 
 // Makes a call. If it is not quiet, prints what it is, its answer and, if it is refused, whether state, table and log are as before.
 pub(crate) fn try_call(
+    rt: &impl Print,
     quiet: bool,
     word: u64,
     s: State,
     table: &mut [u64],
     log: &mut [u64],
-) -> State {
+) -> io::Result<State> {
     let mut cells = [0u64; 306];
     let mut rows = [0u64; 4097];
     copy(table, &mut cells);
@@ -80,11 +83,11 @@ pub(crate) fn try_call(
     let answer = o.word;
     let state = o.state;
     if quiet {
-        return state;
+        return Ok(state);
     }
     let cells_same = same(table, &cells);
     let rows_same = same(log, &rows);
     let state_same = same_state(s, state);
-    print_called(word, answer, cells_same & rows_same & state_same);
-    state
+    print_called(rt, word, answer, cells_same & rows_same & state_same)?;
+    Ok(state)
 }

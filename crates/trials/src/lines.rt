@@ -3,6 +3,7 @@ use super::acts::try_acts;
 use super::same::fewer;
 use super::text::print;
 use fields::{number_in, place_of};
+use std::io;
 
 // The numbers of a text, with a space between them, as many as there are places for.
 fn read_numbers(text: &[u8], numbers: &mut [u64]) {
@@ -20,23 +21,25 @@ fn read_numbers(text: &[u8], numbers: &mut [u64]) {
 }
 
 // What stands before the bar is printed; what the numbers behind it say is done.
-fn try_line(line: &[u8]) {
+fn try_line(rt: &impl Print, line: &[u8]) -> io::Result<()> {
     let bar = place_of(line, b'|', 0);
     if bar < line.len() {
-        print(&line[0..bar]);
+        print(rt, &line[0..bar])?;
         let mut numbers = [0u64; 256];
         let from = bar + 1;
         read_numbers(&line[from..], &mut numbers);
-        try_acts(&numbers);
-        print(b"\n");
+        try_acts(rt, &numbers)?;
+        print(rt, b"\n")?;
     }
+    Ok(())
 }
 
-pub(crate) fn try_all(text: &[u8]) {
+pub(crate) fn try_all(rt: &impl Print, text: &[u8]) -> io::Result<()> {
     let mut at = 0;
     while at < text.len() {
         let end = fewer(place_of(text, 10, at), text.len());
-        try_line(&text[at..end]);
+        try_line(rt, &text[at..end])?;
         at = end + 1;
     }
+    Ok(())
 }

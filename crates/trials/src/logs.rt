@@ -6,24 +6,23 @@ use super::text::{print, print_number, print_order, print_with};
 use judge::bytes::judge_bytes;
 use judge::rows::judge;
 use judging::Verdict;
+use std::io;
 
-fn print_verdict(verdict: Verdict, order: &[u64]) {
+fn print_verdict(rt: &impl Print, verdict: Verdict, order: &[u64]) -> io::Result<()> {
     match verdict {
-        Verdict::Accepted(n) => print_order(order, n),
-        Verdict::WrongLength => print(b"refused 9"),
-        Verdict::Malformed => print(b"refused 10"),
-        Verdict::NoRoom => print(b"refused 11"),
-        Verdict::NoOrder(row) => print_with(b"refused 12 with row ", row as u64),
+        Verdict::Accepted(n) => print_order(rt, order, n),
+        Verdict::WrongLength => print(rt, b"refused 9"),
+        Verdict::Malformed => print(rt, b"refused 10"),
+        Verdict::NoRoom => print(rt, b"refused 11"),
+        Verdict::NoOrder(row) => print_with(rt, b"refused 12 with row ", row as u64),
     }
 }
 
 // Byte k of a row, 0 the most significant.
 fn byte_of(row: u64, k: usize) -> u8 {
     let mut rest = row;
-    let mut i = k;
-    while i < 7 {
+    for _ in k..7 {
         rest = rest / 256;
-        i += 1;
     }
     (rest % 256) as u8
 }
@@ -31,10 +30,8 @@ fn byte_of(row: u64, k: usize) -> u8 {
 // The rows as bytes, as many as both have.
 fn put_bytes(rows: &[u64], bytes: &mut [u8]) {
     let n = fewer(rows.len(), bytes.len() / 8) * 8;
-    let mut i = 0;
-    while i < n {
+    for i in 0..n {
         bytes[i] = byte_of(rows[i / 8], i % 8);
-        i += 1;
     }
 }
 
@@ -53,22 +50,22 @@ fn number_of(rows: &[u64], count: usize) -> u32 {
 }
 
 // Has a log judged; prints the verdict, how many places were written of an order of marks, and what the judge of bytes says.
-fn try_lent(rows: &[u64], order: &mut [u64]) {
+fn try_lent(rt: &impl Print, rows: &[u64], order: &mut [u64]) -> io::Result<()> {
     let verdict = judge(rows, order);
-    print(b": ");
-    print_verdict(verdict, order);
-    print_with(b", places written ", written(order));
-    print(b", bytes ");
-    try_bytes(rows, fewer(rows.len(), 4097) * 8);
+    print(rt, b": ")?;
+    print_verdict(rt, verdict, order)?;
+    print_with(rt, b", places written ", written(order))?;
+    print(rt, b", bytes ")?;
+    try_bytes(rt, rows, fewer(rows.len(), 4097) * 8)
 }
 
 // The same with so many places for the order.
-pub(crate) fn try_log(rows: &[u64], places: usize) {
+pub(crate) fn try_log(rt: &impl Print, rows: &[u64], places: usize) -> io::Result<()> {
     let mut order = marks();
     let count = fewer(places, 4097);
-    try_lent(rows, &mut order[0..count]);
+    try_lent(rt, rows, &mut order[0..count])
 }
 
-pub(crate) fn try_bytes(rows: &[u64], count: usize) {
-    print_number(number_of(rows, count) as u64);
+pub(crate) fn try_bytes(rt: &impl Print, rows: &[u64], count: usize) -> io::Result<()> {
+    print_number(rt, number_of(rows, count) as u64)
 }

@@ -1,6 +1,8 @@
 // Trials of the registers and the judge: the sessions that are not proved, and every refusal, obtained from the code. A trial is a line of
 // the standard input: words, a bar and numbers. The words are printed, then what comes of the acts that the numbers say (see `acts`). The
 // outside model writes the trials and the same lines of output.
+#![tactic(auto)]
+
 mod text; // what is printed
 mod same; // words and states compared
 mod calls; // begins, sub-steps and retirements, each watched
@@ -9,10 +11,10 @@ mod changes; // a state with a field changed
 mod acts; // what is done in a trial
 mod lines; // the trials of a text
 
-use libc::STDIN_FILENO;
+use std::io;
 
-fn main() {
-    let mut text = io::large_buffer();
-    let n = io::read_full(STDIN_FILENO, &mut text);
-    lines::try_all(&text[..n]);
+fn main(rt: HostRuntime) -> io::Result<()> {
+    let mut text = [0u8; 65536];
+    let n = inputs::read_standard(&rt, &mut text);
+    lines::try_all(&rt, &text[..n])
 }

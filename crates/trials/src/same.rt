@@ -26,22 +26,18 @@ pub(crate) fn fewer(a: usize, b: usize) -> usize
 // Copies as many words as there are, and as there is room for.
 pub(crate) fn copy(from: &[u64], to: &mut [u64]) {
     let n = fewer(from.len(), to.len());
-    let mut i = 0;
-    while i < n {
+    for i in 0..n {
         to[i] = from[i];
-        i += 1;
     }
 }
 
 // Whether the words that both have are the same.
 pub(crate) fn same(a: &[u64], b: &[u64]) -> bool {
     let n = fewer(a.len(), b.len());
-    let mut i = 0;
-    while i < n {
+    for i in 0..n {
         if a[i] != b[i] {
             return false;
         }
-        i += 1;
     }
     true
 }
@@ -58,10 +54,8 @@ fn one_if_written(word: u64) -> u64
 // How many words are not the mark.
 pub(crate) fn written(words: &[u64]) -> u64 {
     let mut count = 0u64;
-    let mut i = 0;
-    while i < words.len() {
-        count += one_if_written(words[i]);
-        i += 1;
+    for word in words {
+        count += one_if_written(*word);
     }
     count
 }
@@ -99,14 +93,12 @@ fn same_reader(a: Reader, b: Reader) -> bool {
 }
 
 fn same_readers(a: State, b: State) -> bool {
-    let mut i = 0;
-    while i < 16 {
+    for i in 0usize..16 {
         let x = a.readers[i];
         let y = b.readers[i];
         if same_reader(x, y) {} else {
             return false;
         }
-        i += 1;
     }
     true
 }

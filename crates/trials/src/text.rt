@@ -1,34 +1,32 @@
 // What is printed.
 use super::same::fewer;
-use libc::STDOUT_FILENO;
+use std::io;
 
-pub(crate) fn print(words: &[u8]) {
-    io::write_all(STDOUT_FILENO, words);
+pub(crate) fn print(rt: &impl Print, words: &[u8]) -> io::Result<()> {
+    rt.write_all(words)
 }
 
-pub(crate) fn print_number(number: u64) {
-    io::print_decimal(STDOUT_FILENO, number);
+pub(crate) fn print_number(rt: &impl Print, number: u64) -> io::Result<()> {
+    print!(rt; "{number}")
 }
 
 // Words and a number.
-pub(crate) fn print_with(words: &[u8], number: u64) {
-    io::write_all(STDOUT_FILENO, words);
-    io::print_decimal(STDOUT_FILENO, number);
+pub(crate) fn print_with(rt: &impl Print, words: &[u8], number: u64) -> io::Result<()> {
+    print(rt, words)?;
+    print_number(rt, number)
 }
 
 // Rows in hexadecimal.
-pub(crate) fn print_rows(rows: &[u64]) {
-    let mut i = 0;
-    while i < rows.len() {
-        print(b" ");
-        io::print_hex(STDOUT_FILENO, rows[i], 16);
-        i += 1;
+pub(crate) fn print_rows(rt: &impl Print, rows: &[u64]) -> io::Result<()> {
+    for row in rows {
+        print!(rt; " {row:016x}")?;
     }
+    Ok(())
 }
 
-pub(crate) fn print_cells(table: &[u64]) {
-    print(b"; cells");
-    print_rows(table);
+pub(crate) fn print_cells(rt: &impl Print, table: &[u64]) -> io::Result<()> {
+    print(rt, b"; cells")?;
+    print_rows(rt, table)
 }
 
 // The refusal number in an answer's word, or 0.
@@ -37,24 +35,23 @@ pub(crate) fn refusal_in(word: u64) -> u64 {
 }
 
 // An answer's word.
-pub(crate) fn print_answer(word: u64) {
+pub(crate) fn print_answer(rt: &impl Print, word: u64) -> io::Result<()> {
     let number = refusal_in(word);
     if number != 0 {
-        print_with(b"refused ", number);
+        print_with(rt, b"refused ", number)
     } else if word != 0 {
-        print_with(b"sub-step ", word);
+        print_with(rt, b"sub-step ", word)
     } else {
-        print(b"accepted");
+        print(rt, b"accepted")
     }
 }
 
 // The first count words of an order.
-pub(crate) fn print_order(order: &[u64], count: usize) {
-    print(b"order");
+pub(crate) fn print_order(rt: &impl Print, order: &[u64], count: usize) -> io::Result<()> {
+    print(rt, b"order")?;
     let n = fewer(count, order.len());
-    let mut i = 0;
-    while i < n {
-        print_with(b" ", order[i]);
-        i += 1;
+    for key in &order[..n] {
+        print_with(rt, b" ", *key)?;
     }
+    Ok(())
 }

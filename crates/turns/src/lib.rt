@@ -1,5 +1,7 @@
 // The schedules of a short drill, listed: a writer's a turns and reader 1's b. A schedule is a number with a bit for each turn, the first turn's
 // the highest, 1 for the reader.
+#![tactic(auto)]
+
 ghost use Rattle.std.specs.Prelude.{[], ◌∷◌, ◌+◌, ◌<◌, ◌≤◌, ◌^◌, length, take};
 ghost use Rattle.lines.specs.Lines.{Puts};
 ghost use Rattle.schedules.specs.Schedules.{after_writer, after_reader};

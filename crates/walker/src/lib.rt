@@ -1,17 +1,19 @@
 // "The listing uses a walker made of the lent log and the next row." A walker can be made and advanced; the listing holds one.
+#![tactic(auto)]
+
 ghost use Rattle.std.specs.Prelude.{◌≡◌};
 ghost use Rattle.lines.specs.Lines.{row_line, rows_text, Puts};
 ghost use Rattle.walker.specs.Walk.{step_at};
 
 // A walker over the rows of a lent log: the log, and the next row.
-#[derive(Drop)]
+#[derive(Clone, Copy)]
 pub struct Walker<'a> {
     pub log: &'a [u64],
     pub next: usize,
 }
 
 // What an advance finds: the row, and the number of the row behind it. At the log's end the row is 0 and the number stays.
-#[derive(Drop)]
+#[derive(Clone, Copy)]
 pub struct Step {
     pub row: u64,
     pub next: usize,

@@ -5,7 +5,7 @@ ghost use Rattle.words.specs.Cell.{pack_cell, unpack_cell};
 use super::stamp::Stamp;
 
 // What one processor shows another: a value with its stamp, and, to the writer, the stamp it has announced.
-#[derive(Drop)]
+#[derive(Clone, Copy)]
 pub struct Cell {
     pub value: u32,
     pub stamp: Stamp,

@@ -4,7 +4,7 @@ ghost use Rattle.words.specs.Stamp.{none, same, stamp_ok};
 
 // A write's own ticket and that of the write before.
 #[repr(C)]
-#[derive(Drop)]
+#[derive(Clone, Copy)]
 pub struct Stamp {
     pub cur: u8,
     pub prev: u8,
