@@ -1,15 +1,14 @@
 -- The test of a head is its meaning, and what a call does to it.
-use Prim.Native.Nat.{ℕ, ◌+◌, ◌-◌, ◌≤◌, ◌<◌}
-use mathlib.Core.Path.{◌≡◌, refl, sym, ap}
-use mathlib.Core.Logic.{◌⊎◌, inl, inr}
+use Prim.Native.Nat.{ℕ, ◌+◌, ◌≤◌, ◌<◌}
+use mathlib.Core.Path.{◌≡◌, refl, ap}
 use mathlib.Core.Bool.{Bool, true, false}
 use native.Mathlib.Omega.{arith}
 use lib.Dec.{leb, eqb}
-use borrow.Author.Tests.{leb-true, leb-false, eqb-true, le-leb, lt-leb, eq-eqb}
+use borrow.Author.Tests.{leb-true, eqb-true, le-leb, eq-eqb}
 use Rattle.words.specs.Counting.{one}
 use Rattle.words.proofs.Laws.Choice.{left, right, both}
 use Rattle.common.specs.declared.Head.{Head}
-use Rattle.common.specs.Head.{head_ok, HeadInRange, has_room, head_with, stepped}
+use Rattle.common.specs.Head.{head_ok, HeadInRange, head_with, stepped}
 
 module _ (need : ℕ) (h : Head) (count cells log : ℕ) where
   pub head_in : head_ok need h count cells log ≡ true → HeadInRange need h count cells log
@@ -74,16 +73,3 @@ pub head_steps : (h : Head) (a b : Bool) → h.used + h.opens ≤ h.rows → a �
     → (h.used ≤ (stepped h b).used) × ((stepped h b).opens + one a ≡ h.opens + one b) × ((stepped h b).used + (stepped h b).opens ≤ h.rows)
 head_steps h a true room e o = omega (arith, ap one e)
 head_steps h a false room e o = omega (arith, ap one e)
-
--- Question 7, by the rows that are free.
-module _ (h : Head) where
-  pub no_room : (h.rows < h.used) ⊎ (h.rows - h.used < h.opens) → false ≡ has_room h
-  no_room (inl a) = sym (lt-leb (h.used + h.opens + 2) h.rows (omega arith))
-  no_room (inr a) = sym (lt-leb (h.used + h.opens + 2) h.rows (omega arith))
-
-  pub room_is : h.used ≤ h.rows → h.opens ≤ h.rows - h.used → leb 2 (h.rows - h.used - h.opens) ≡ has_room h
-  room_is a b = at (leb 2 (h.rows - h.used - h.opens)) refl
-    where
-      at : (t : Bool) → leb 2 (h.rows - h.used - h.opens) ≡ t → t ≡ has_room h
-      at true e = sym (le-leb (h.used + h.opens + 2) h.rows (omega (arith, leb-true 2 (h.rows - h.used - h.opens) e)))
-      at false e = sym (lt-leb (h.used + h.opens + 2) h.rows (omega (arith, leb-false 2 (h.rows - h.used - h.opens) e)))

@@ -45,8 +45,8 @@ module _ (R : Rules) (s : State) (cells log : ℕ) (g : Good R s cells log) wher
     sized = g.sized;
     ok = record {
       head_good = head_moves _ s.head (open_in s) cells log used opens _ l (omega (arith, e, g.ok.head_good.opens_is)) f g.ok.head_good;
-      writer_ok_lem = k;
-      readers_ok_lem = g.ok.readers_ok_lem;
+      writer_passes = k;
+      readers_pass = g.ok.readers_pass;
     };
   }
 
@@ -74,10 +74,10 @@ module _ (R : Rules) (s : State) (cells log : ℕ) (g : Good R s cells log) wher
       sized = simp length-set g.sized;
       ok = record {
         head_good = head_moves _ s.head (open_in s) cells log used opens _ l (omega (arith, e, g.ok.head_good.opens_is, opens_with (head_with s.head used opens) refl)) f g.ok.head_good;
-        writer_ok_lem = g.ok.writer_ok_lem;
-        readers_ok_lem =
+        writer_passes = g.ok.writer_passes;
+        readers_pass =
             each_place s i r (head_with s.head used opens) place (λ j x. j < s.head.n → R.reader_ok s.head.n (as_counted x) ≡ true) (λ _. k)
-            (λ j _. g.ok.readers_ok_lem j);
+            (λ j _. g.ok.readers_pass j);
       };
     }
 
@@ -112,7 +112,7 @@ module _ (R : Rules) (W : Lawful R) (s : State) (t l : List ℕ) (g : Good R s (
         n_same = refl;
         cells_same = refl;
         rows_same = simp length-set;
-        good = with_writer_lem R s _ _ g (writer_begins s.writer v) _ _ (W.writer_begins_lem n v s.writer g.ok.head_good.n_low g.ok.writer_ok_lem q) (omega arith)
+        good = with_writer_lem R s _ _ g (writer_begins s.writer v) _ _ (W.writer_begins_lem n v s.writer g.ok.head_good.n_low g.ok.writer_passes q) (omega arith)
             (omega (arith, ap one a)) (omega arith);
       })
       (λ _. same _ refl refl refl))
@@ -150,9 +150,9 @@ module _ (R : Rules) (W : Lawful R) (s : State) (t l : List ℕ) (g : Good R s (
       let f = head_steps s.head s.writer.active q.writer.active g.ok.head_good.room a (writer_open s R _ _ g.ok) in
       record {
         n_same = refl;
-        cells_same = one_length (R.cells n) t q.table (W.write_cell n s.writer t g.ok.head_good.n_low g.ok.writer_ok_lem a);
+        cells_same = one_length (R.cells n) t q.table (W.write_cell n s.writer t g.ok.head_good.n_low g.ok.writer_passes a);
         rows_same = pick_length l q.writer.active _ _;
-        good = with_writer_lem R s _ _ g q.writer _ _ (W.writer_turn n s.writer t g.ok.head_good.n_low g.ok.head_good.n_high g.ok.writer_ok_lem a) f.0 f.1 f.2;
+        good = with_writer_lem R s _ _ g q.writer _ _ (W.writer_turn n s.writer t g.ok.head_good.n_low g.ok.head_good.n_high g.ok.writer_passes a) f.0 f.1 f.2;
       }
 
   step_r_stays : (p : ℕ) → 1 ≤ p → p ≤ n → is_retired s p ≡ false → (reader_at s (p - 1)).active ≡ true → St (step_reader R s t l p)
@@ -211,4 +211,4 @@ pub passes_again : (R : Rules) → Lawful R → (s : State) (t l : List ℕ) (c 
     → Passes R (call_of R s t l c)
 passes_again R W s t l c z e =
     let k = call_stays R W s t l (record { sized = z; ok = test_range R s _ _ e }) c in
-    record { in_range_lem = rw (k.cells_same, k.rows_same) (range_test R _ _ _ k.good.ok); opens_is = k.good.ok.head_good.opens_is }
+    record { is_in_range = rw (k.cells_same, k.rows_same) (range_test R _ _ _ k.good.ok); opens_is = k.good.ok.head_good.opens_is }

@@ -1,4 +1,4 @@
--- A register's log against its book's rows: L is the log as set_up left it.
+-- A register's log against its book's rows: L is the log as set-up left it.
 use Prim.Native.Nat.{ℕ, suc, ◌+◌, ◌≤◌, ◌<◌}
 use mathlib.Core.Path.{◌≡◌, refl, ap}
 use mathlib.Core.Bool.{Bool, true, false}
@@ -30,7 +30,7 @@ row_same false y z e u f = ap f (e refl)
 pub pick_length : (l : List ℕ) (b : Bool) (u x : ℕ) → length (pick b l (set l u x)) ≡ length l
 pick_length l b u x = pick_ind (λ (m : List ℕ). length m ≡ length l) b _ _ (λ _. refl) (λ _. simp length-set)
 
--- The log as set_up left it: row 0, and the rest.
+-- The log as set-up left it: row 0, and the rest.
 pub start_rows : (l : List ℕ) (x : ℕ) → 3 ≤ length l → set l 0 x ≡ (x ∷ []) ++ drop 1 (set l 0 x)
 start_rows [] x h = absurd (omega arith)
 start_rows (y ∷ l) x h = refl

@@ -30,15 +30,15 @@ module _ (R : Rules) (s : State) (cells log : ℕ) where
       let e2 = right writer _ e1 in
       record {
         head_good = head_in _ _ _ _ _ (left head _ e);
-        writer_ok_lem = left writer _ e1;
-        readers_ok_lem = λ i h. all_at s.head.n (λ i. R.reader_ok s.head.n (as_counted (reader_at s i))) i e2 h;
+        writer_passes = left writer _ e1;
+        readers_pass = λ i h. all_at s.head.n (λ i. R.reader_ok s.head.n (as_counted (reader_at s i))) i e2 h;
       }
 
   pub range_test : InRange R s cells log → state_ok R s cells log ≡ true
   unfolding state_ok
   range_test k =
       both head _ (in_head _ _ _ _ _ k.head_good)
-      (both writer _ k.writer_ok_lem (all_make s.head.n (λ i. R.reader_ok s.head.n (as_counted (reader_at s i))) k.readers_ok_lem))
+      (both writer _ k.writer_passes (all_make s.head.n (λ i. R.reader_ok s.head.n (as_counted (reader_at s i))) k.readers_pass))
 
 -- Reader p, if it is not retired: it counts as it stands, passes question 4 by itself, and its read, while it is open, is one of the open
 -- operations and has a row kept for its end.
@@ -48,7 +48,7 @@ module _ (s : State) (p : ℕ) (p1 : 1 ≤ p) (free : is_retired s p ≡ false) 
 
   module _ (pn : p ≤ s.head.n) (R : Rules) (cells log : ℕ) (k : InRange R s cells log) where
     pub reader_ok_lem : R.reader_ok s.head.n (reader_at s (p - 1)) ≡ true
-    reader_ok_lem = subst (λ (r : Reader). R.reader_ok s.head.n r ≡ true) stands (k.readers_ok_lem (p - 1) (omega arith))
+    reader_ok_lem = subst (λ (r : Reader). R.reader_ok s.head.n r ≡ true) stands (k.readers_pass (p - 1) (omega arith))
 
     pub reader_open : one (reader_at s (p - 1)).active ≤ s.head.opens
     reader_open = omega (

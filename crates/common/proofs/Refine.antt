@@ -35,7 +35,7 @@ use Rattle.common.proofs.Lawful.{Lawful, WTurnRel, RTurnRel, Simulates}
 
 module _ {Stamp Cell : Type 0} (R : Rules) (B : Telling Stamp Cell) (WIs : ℕ → Writer → Stamp → Operation Cell → Type 0)
     (RIs : ℕ → Reader → Stamp → Operation Cell → Type 0) where
-  -- X: the cells behind the table's; L: the log as set_up left it.
+  -- X: the cells behind the table's; L: the log as set-up left it.
   pub record Rel (X L : List ℕ) (s : State) (t l : List ℕ) (b : Model Stamp Cell) : Type 0 where
     pub table_is : t ≡ b.table ++ X
     pub size_is : length b.table ≡ R.cells s.head.n
@@ -142,7 +142,7 @@ module _ {Stamp Cell : Type 0} (R : Rules) (B : Telling Stamp Cell) (WIs : ℕ �
 
         T : WTurnRel R B WIs RIs n X (R.write_step n s.writer t) x
         T = subst (λ (y : List ℕ). WTurnRel R B WIs RIs n X (R.write_step n s.writer y) x) (sym A.table_is)
-            (S.turn_w n g.ok.head_good.n_low g.ok.head_good.n_high b.table X A.size_is s.writer (b.stamp 0) v m cells g.ok.writer_ok_lem K)
+            (S.turn_w n g.ok.head_good.n_low g.ok.head_good.n_high b.table X A.size_is s.writer (b.stamp 0) v m cells g.ok.writer_passes K)
 
         q : WriteStep
         q = R.write_step n s.writer t

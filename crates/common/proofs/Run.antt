@@ -1,5 +1,5 @@
--- Whole runs: from an accepted set_up, the calls and the book stay related.
-use Prim.Native.Nat.{ℕ, zero, suc, ◌+◌, ◌-◌, ◌^◌, ◌≤◌, ◌<◌}
+-- Whole runs: from an accepted set-up, the calls and the book stay related.
+use Prim.Native.Nat.{ℕ, zero, suc, ◌-◌, ◌^◌, ◌≤◌, ◌<◌}
 use mathlib.Core.Path.{◌≡◌, refl, sym, ap, ◌∙◌}
 use mathlib.Core.List.{List, [], ◌∷◌, ◌++◌}
 use mathlib.Core.Bool.{Bool, true, false, not, ◌&&◌}
@@ -35,7 +35,7 @@ all_alike i h = get_or-replicate 16 i fresh_reader blank h
 
 module _ {Stamp Cell : Type 0} (R : Rules) (B : Telling Stamp Cell) (WIs : ℕ → Writer → Stamp → Operation Cell → Type 0)
     (RIs : ℕ → Reader → Stamp → Operation Cell → Type 0) where
-  -- After a list of calls. X: the cells behind the table's; L: the log as set_up left it.
+  -- After a list of calls. X: the cells behind the table's; L: the log as set-up left it.
   pub record RunRel (X L : List ℕ) (s : State) (r : Ran) (k : Kept Stamp Cell) : Type 0 where
     pub answers_are : r.answers ≡ k.answers
     pub n_same : r.state.head.n ≡ s.head.n
@@ -43,7 +43,7 @@ module _ {Stamp Cell : Type 0} (R : Rules) (B : Telling Stamp Cell) (WIs : ℕ �
     pub rel : Rel R B WIs RIs X L r.state r.table r.log k.model
     pub good : Good R r.state (length r.table) (length r.log)
 
-  -- What an accepted set_up leads to.
+  -- What an accepted set-up leads to.
   pub record FromSetUp (n v fresh : ℕ) (t l : List ℕ) (o : Outcome) (cs : List Call) : Type 0 where
     pub runs : RunRel (drop (R.cells n) t) o.log o.state (run_of R o.state o.table o.log cs) (model_of B n v fresh l cs)
     pub beyond : drop (R.cells n) o.table ≡ drop (R.cells n) t
@@ -104,8 +104,8 @@ module _ {Stamp Cell : Type 0} (R : Rules) (B : Telling Stamp Cell) (WIs : ℕ �
             opens_is = omega (arith, count_nowhere n (λ i. (as_counted (reader_at s₀ i)).active) (λ i h. ap (λ (r : Reader). (as_counted r).active) (all_alike i (omega arith))));
             room = omega arith;
           };
-          writer_ok_lem = W.fresh_writer_lem n fresh;
-          readers_ok_lem = λ i h. rw (all_alike i (omega arith)) (W.fresh_reader_lem n);
+          writer_passes = W.fresh_writer_lem n fresh;
+          readers_pass = λ i h. rw (all_alike i (omega arith)) (W.fresh_reader_lem n);
         };
       }
 
@@ -156,7 +156,7 @@ module _ {Stamp Cell : Type 0} (R : Rules) (B : Telling Stamp Cell) (WIs : ℕ �
         record {
           cells_beyond = z.beyond;
           rows_beyond = ap (drop 1) z.log_is ∙ drop-set-lt 1 l 0 (start_row n v) (omega arith);
-          passes = record { in_range_lem = range_test R _ _ _ z.runs.good.ok; opens_is = z.runs.good.ok.head_good.opens_is };
+          passes = record { is_in_range = range_test R _ _ _ z.runs.good.ok; opens_is = z.runs.good.ok.head_good.opens_is };
         }
 
 -- The book never gives refusal 4.

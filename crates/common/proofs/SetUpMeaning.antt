@@ -1,4 +1,4 @@
--- The number that set_up gives means what document 01 says.
+-- The number that set-up gives means what document 01 says.
 use Prim.Native.Nat.{ℕ}
 use native.Mathlib.Omega.{arith}
 use mathlib.Core.Path.{◌≡◌, refl, sym, ◌∙◌}

@@ -46,7 +46,7 @@ module _ (R : Rules) (place : ℕ → ℕ → ℕ → ℕ) (Has : ℕ → ℕ �
   module _ (k : InRange R s (length t) (length l)) where
     writer_steps : s.writer.active ≡ true → Out (step_writer R s t l)
     unfolding step_writer
-    writer_steps a = (word_stands 0 (another 0 refl) _ _ (D.write_word n s.writer k.head_good.n_low k.writer_ok_lem a), gone)
+    writer_steps a = (word_stands 0 (another 0 refl) _ _ (D.write_word n s.writer k.head_good.n_low k.writer_passes a), gone)
 
     reader_steps : (q : ℕ) → 1 ≤ q → q ≤ n → is_retired s q ≡ false → (reader_at s (q - 1)).active ≡ true → Out (step_reader R s t l q)
     unfolding step_reader

@@ -56,7 +56,7 @@ module _ (R : Rules) (W : Lawful R) (s : State) (t l : List ℕ) where
     writer_touches : s.writer.active ≡ true → To (step_writer R s t l)
     unfolding step_writer
     writer_touches a = record {
-      one_cell = W.write_cell n s.writer t k.head_good.n_low k.writer_ok_lem a;
+      one_cell = W.write_cell n s.writer t k.head_good.n_low k.writer_passes a;
       one_row = row_or s.head.rows s.head.used l (R.write_step n s.writer t).writer.active (row_of 2 0 0) (writer_room s R _ _ k a);
     }
 

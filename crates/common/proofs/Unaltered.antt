@@ -1,4 +1,4 @@
--- A refused call or set_up alters nothing; and every call is refused if the number of open operations is off.
+-- A refused call or set-up alters nothing; and every call is refused if the number of open operations is off.
 use Prim.Native.Nat.{ℕ, ◌-◌}
 use mathlib.Core.Path.{◌≡◌, refl, sym, ap, ◌∙◌}
 use mathlib.Core.Logic.{◌≢◌}
@@ -41,8 +41,8 @@ module _ (R : Rules) (s : State) (t l : List ℕ) where
   unfolding Keeps
   takes o f r e = never (sym (ap is_refused e) ∙ f)
 
-  in_range_lem : (o : Outcome) → Keeps o → Keeps (in_range R s t l o)
-  in_range_lem o h = pick_ind Keeps (state_ok R s (length t) (length l)) _ _ (λ _. h) (λ _. refuses _)
+  is_in_range : (o : Outcome) → Keeps o → Keeps (in_range R s t l o)
+  is_in_range o h = pick_ind Keeps (state_ok R s (length t) (length l)) _ _ (λ _. h) (λ _. refuses _)
 
   asked : (least p : ℕ) (o : Outcome) → Keeps o → Keeps (as_processor s t l least p o)
   asked least p o h = as_processor_lem Keeps s t l (refuses _) (refuses _) least p o (λ _ _ _. h)
@@ -53,22 +53,22 @@ module _ (R : Rules) (s : State) (t l : List ℕ) where
 
   write_keeps : (v : ℕ) → Keeps (begin_write_of R s t l v)
   unfolding begin_write_of
-  write_keeps v = in_range_lem _ (pick_ind Keeps s.writer.active _ _ (λ _. refuses _)
+  write_keeps v = is_in_range _ (pick_ind Keeps s.writer.active _ _ (λ _. refuses _)
       (λ _. if_room _ (pick_ind Keeps (R.may_write s.writer) _ _ (λ _. takes _ refl) (λ _. refuses _)) _))
 
   read_keeps : (p : ℕ) → Keeps (begin_read_of R s t l p)
   unfolding begin_read_of
-  read_keeps p = in_range_lem _ (asked 1 p _ (pick_ind Keeps (reader_at s (p - 1)).active _ _ (λ _. refuses _) (λ _. if_room _ (takes _ refl) _)))
+  read_keeps p = is_in_range _ (asked 1 p _ (pick_ind Keeps (reader_at s (p - 1)).active _ _ (λ _. refuses _) (λ _. if_room _ (takes _ refl) _)))
 
   step_keeps : (p : ℕ) → Keeps (step_of R s t l p)
   unfolding step_of step_writer step_reader
-  step_keeps p = in_range_lem _ (asked 0 p _ (pick_ind Keeps (eqb p 0) _ _
+  step_keeps p = is_in_range _ (asked 0 p _ (pick_ind Keeps (eqb p 0) _ _
       (λ _. pick_ind Keeps s.writer.active _ _ (λ _. takes _ refl) (λ _. refuses _))
       (λ _. pick_ind Keeps (reader_at s (p - 1)).active _ _ (λ _. takes _ refl) (λ _. refuses _))))
 
   retire_keeps : (p : ℕ) → Keeps (retire_of R s t l p)
   unfolding retire_of
-  retire_keeps p = in_range_lem _ (asked 1 p _ (takes _ refl))
+  retire_keeps p = is_in_range _ (asked 1 p _ (takes _ refl))
 
   -- "A no gives its number and alters nothing."
   pub call_unaltered : (c : Call) (r : Refusal) → (call_of R s t l c).answer ≡ Refused r → Unaltered s t l (call_of R s t l c)
@@ -94,7 +94,7 @@ module _ (R : Rules) (s : State) (t l : List ℕ) where
     number_off (step p) = rw out
     number_off (retire p) = rw out
 
--- The same of a set_up, which returns no register's state.
+-- The same of a set-up, which returns no register's state.
 module _ (R : Rules) (n v fresh : ℕ) (t l : List ℕ) where
   KeepsAll : Outcome → Type 0
   KeepsAll o = (r : Refusal) → o.answer ≡ Refused r → NotSetUp R t l o

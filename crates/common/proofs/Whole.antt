@@ -57,7 +57,7 @@ module _ {Stamp Cell : Type 0} (R : Rules) (B : Telling Stamp Cell) (WIs : ℕ �
   size : length (model_of B n v fresh l cs).model.table ≡ R.cells n
   size = start.runs.rel.size_is ∙ ap R.cells n_is
 
-  -- The sub-step that follows, with the state's n and rows as set_up had them: it ends at f n.
+  -- The sub-step that follows, with the state's n and rows as set-up had them: it ends at f n.
   pub as_set_up : (p m : ℕ) (f : ℕ → ℕ)
       → Moves (call_of R r.state r.table r.log (step p)).answer (is_open ((told B r.state.head.n r.state.head.rows b (step p)).model.op p)) m (f r.state.head.n)
       → Moves (next R n v fresh t l cs (step p)).answer (still B n v fresh l cs p) m (f n)

@@ -36,14 +36,14 @@ pub record Touches (R : Rules) (s : State) (t l : List ℕ) (o : Outcome) : Type
   pub one_cell : AtMostOne (R.cells s.head.n) t o.table
   pub one_row : AtMostOne s.head.rows l o.log
 
--- what a set_up that is accepted leaves, and a call on a state that passed question 4
+-- what a set-up that is accepted leaves, and a call on a state that passed question 4
 pub record Passes (R : Rules) (o : Outcome) : Type 0 where
   -- "The fresh state passes 4 with its table and log, and a state that passed 4 passes it again after the call."
-  pub in_range_lem : state_ok R o.state (length o.table) (length o.log) ≡ true
-  -- (02) "it equals the count after set_up and after each call that passes question 4"
+  pub is_in_range : state_ok R o.state (length o.table) (length o.log) ≡ true
+  -- (02) "it equals the count after set-up and after each call that passes question 4"
   pub opens_is : o.state.head.opens ≡ open_in o.state
 
--- set_up of n readers: "Set-up writes row 0 only", and its cells
+-- set-up of n readers: "Set-up writes row 0 only", and its cells
 pub record SetsUp (R : Rules) (n : ℕ) (t l : List ℕ) (o : Outcome) : Type 0 where
   pub cells_beyond : drop (R.cells n) o.table ≡ drop (R.cells n) t
   pub rows_beyond : drop 1 o.log ≡ drop 1 l

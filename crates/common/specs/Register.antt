@@ -114,6 +114,6 @@ run_of R s t l (c ∷ cs) =
     let r = run_of R o.state o.table o.log cs in
     record { answers = o.answer ∷ r.answers; state = r.state; table = r.table; log = r.log }
 
--- "It starts from what an accepted set_up returned and wrote"
+-- "It starts from what an accepted set-up returned and wrote"
 abbrev pub ran_from : Rules → ℕ → ℕ → ℕ → List ℕ → List ℕ → List Call → Ran
 ran_from R n v fresh t l cs = let o = set_up_of R n v fresh t l in run_of R o.state o.table o.log cs

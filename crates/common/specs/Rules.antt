@@ -44,5 +44,5 @@ module _ (R : Rules) where
   -- what that means, but for the processors, whose tests have a meaning of their own in each register
   pub record InRange (s : State) (cells log : ℕ) : Type 0 where
     pub head_good : HeadInRange (R.cells s.head.n) s.head (open_in s) cells log
-    pub writer_ok_lem : R.writer_ok s.head.n s.writer ≡ true
-    pub readers_ok_lem : (i : ℕ) → i < s.head.n → R.reader_ok s.head.n (as_counted (reader_at s i)) ≡ true
+    pub writer_passes : R.writer_ok s.head.n s.writer ≡ true
+    pub readers_pass : (i : ℕ) → i < s.head.n → R.reader_ok s.head.n (as_counted (reader_at s i)) ≡ true

@@ -22,7 +22,7 @@ pub record Outcome : Type 0 where
 abbrev pub refused : Refusal → State → List ℕ → List ℕ → Outcome
 refused r s t l = record { answer = Refused r; state = s; table = t; log = l }
 
--- "the writer's stamp, at first (0,1)"; of the counted register "The fresh stamp is handed over at set_up"
+-- "the writer's stamp, at first (0,1)"; of the counted register "The fresh stamp is handed over at set-up"
 abbrev pub fresh_writer : ℕ → Writer
 fresh_writer fresh = record {
   active = false;

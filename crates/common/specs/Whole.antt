@@ -54,13 +54,13 @@ module _ {Stamp Cell : Type 0} (R : Rules) (B : Telling Stamp Cell) (n v fresh :
     pub out : (p : ℕ) → 1 ≤ p → p ≤ n → model.retired p ≡ true → Out p
     -- (02) "Its cells remain just as they stand", "and adds no row"
     pub moves_nothing : (p : ℕ) → ((next R n v fresh t l cs (retire p)).table ≡ ran.table) × ((next R n v fresh t l cs (retire p)).log ≡ ran.log)
-    -- (02) "it equals the count after set_up and after each call that passes question 4", in the state and in the book
+    -- (02) "it equals the count after set-up and after each call that passes question 4", in the state and in the book
     pub opens_is : ran.state.head.opens ≡ open_in ran.state
     pub opens_in_book : ran.state.head.opens ≡ open_count n model
     -- (02) "An operation it had open .. stops counting as open in questions 4 and 7": a retirement takes it out of the number
     pub frees : (p : ℕ) → 1 ≤ p → p ≤ n → model.retired p ≡ false
         → (next R n v fresh t l cs (retire p)).state.head.opens + one (is_open (model.op p)) ≡ ran.state.head.opens
-    -- "every cell and row beyond is as set_up left it."
+    -- "every cell and row beyond is as set-up left it."
     pub cells_beyond : drop (R.cells n) ran.table ≡ drop (R.cells n) (set_up_of R n v fresh t l).table
     pub rows_beyond : drop ran.state.head.used ran.log ≡ drop ran.state.head.used (set_up_of R n v fresh t l).log
     -- "in a list question 4 refuses nothing"

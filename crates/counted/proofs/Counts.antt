@@ -57,7 +57,7 @@ module _ (X L : List ℕ) (s : State) (t l : List ℕ) (b : Model) (g : Good cou
     unfolding write_turn
     write_moves = record {
       number_is = write_number counted_rules book WIs RIs lawful simulates X L s t l b g A full v m cells e;
-      not_past = omega (arith, (writer_in n s.writer g.ok.writer_ok_lem).moved_low K.active_is, K.moved_is);
+      not_past = omega (arith, (writer_in n s.writer g.ok.writer_passes).moved_low K.active_is, K.moved_is);
       goes_on = λ h. rw (write_told book n s.head.rows b _ (sym (A.retired_are 0 (omega arith))) e, upd_same b.op 0) (lt_ind (On true) (m + 1) (write_steps n) _ _ (λ _. refl) (λ q. absurd (omega arith)));
       ends = λ h. rw (write_told book n s.head.rows b _ (sym (A.retired_are 0 (omega arith))) e, upd_same b.op 0) (lt_ind (On false) (m + 1) (write_steps n) _ _ (λ q. absurd (omega arith)) (λ _. refl));
     }

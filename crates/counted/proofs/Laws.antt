@@ -1,14 +1,11 @@
 -- The counted register's rules are lawful.
-use Prim.Native.Nat.{ℕ, ◌+◌, ◌-◌, ◌*◌, ◌<◌}
+use Prim.Native.Nat.{ℕ, ◌+◌}
 use mathlib.Core.Path.{◌≡◌, refl, sym, ap, ◌∙◌}
 use mathlib.Core.List.{List}
-use mathlib.Core.Bool.{true}
 use native.Mathlib.Omega.{arith}
 use lib.ListN.{length}
-use lib.Dec.{ltb}
 use borrow.Author.Tests.{ltb-true}
-use Rattle.words.proofs.Laws.Choice.{lt_ind, pick_yes, never}
-use Rattle.common.specs.declared.Writer.{Writer}
+use Rattle.words.proofs.Laws.Choice.{lt_ind, never}
 use Rattle.common.specs.declared.Reader.{Reader}
 use Rattle.common.specs.State.{as_counted, writer_begins, reader_begins, retires}
 use Rattle.common.specs.Rules.{ReadStep}
@@ -16,30 +13,13 @@ use Rattle.common.specs.SetUp.{fresh_writer, fresh_reader}
 use Rattle.common.proofs.Effects.{word_cell}
 use Rattle.common.proofs.Lawful.{Lawful, Wired}
 use Rattle.counted.specs.Table.{index, Link}
-use Rattle.counted.specs.InRange.{WriterInRange, ReaderInRange}
-use Rattle.counted.specs.Steps.{write_steps, read_steps, write_step, read_step}
+use Rattle.counted.specs.Steps.{read_step}
 use Rattle.counted.specs.Reference.{fresh_table}
 use Rattle.counted.specs.Rules.{counted_rules, fresh_cells}
 use Rattle.counted.proofs.Table.{index_low, index_inj, fresh_length}
 use Rattle.counted.proofs.Range.{writer_in, in_writer, reader_in, in_reader}
 use Rattle.counted.proofs.Effects.{write_word, read_word}
-
-turn_w : (n : ℕ) (w : Writer) (t : List ℕ) → WriterInRange n w → w.active ≡ true → WriterInRange n (write_step n w t).writer
-unfolding write_step
-turn_w n w t k a = record {
-  moved_low = λ e. omega (arith, ltb-true (w.moved + 1) (write_steps n) e);
-  count_low = λ e. rw (pick_yes (ltb (w.moved + 1) (write_steps n)) w.count (w.count + 1) e) (k.count_low a);
-}
-
--- a read that goes on has not made its last sub-step
-on_low : (n m : ℕ) → ltb (m + 1) (read_steps n) ≡ true → m + 1 < 2 * n - 1
-on_low n m e = omega (arith, ltb-true (m + 1) (read_steps n) e)
-
-turn_r : (n p : ℕ) (r : Reader) (t : List ℕ) → ReaderInRange n (read_step n p r t).reader
-unfolding read_step
-turn_r n p r t =
-    let Q : ReadStep → Type 0 = λ q. ReaderInRange n q.reader in
-    lt_ind Q (r.moved + 1) n _ _ (λ _. on_low n r.moved) (λ _. lt_ind Q r.moved n _ _ (λ _. on_low n r.moved) (λ _. on_low n r.moved))
+use Rattle.counted.proofs.Turning.{turn_w, turn_r}
 
 -- A sub-step retires none.
 retired_stays : (n p : ℕ) (r : Reader) (t : List ℕ) → (read_step n p r t).reader.retired ≡ r.retired

@@ -4,6 +4,7 @@ pub mod Turns
 pub mod Atomic
 pub mod Range
 pub mod Effects
+pub mod Turning
 pub mod Laws
 pub mod SetUp
 pub mod TurnRel

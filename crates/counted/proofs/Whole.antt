@@ -1,4 +1,4 @@
--- Demand 3 for the counted register: from every accepted set_up, for every list of calls.
+-- Demand 3 for the counted register: from every accepted set-up, for every list of calls.
 use Prim.Native.Nat.{ℕ, ◌-◌, ◌*◌, ◌^◌, ◌<◌}
 use mathlib.Core.Path.{◌≡◌}
 use mathlib.Core.List.{List}

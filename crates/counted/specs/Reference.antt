@@ -67,7 +67,7 @@ read_turn n p t s m cells =
       value = (result_of n cells').value;
     }
 
--- "The fresh stamp is handed over at set_up, and stands in every cell, with the start reading in the writer's cells and 0 elsewhere."
+-- "The fresh stamp is handed over at set-up, and stands in every cell, with the start reading in the writer's cells and 0 elsewhere."
 unfoldable pub fresh_table : ℕ → ℕ → ℕ → List ℕ
 fresh_table n v fresh =
     replicate n (pack_cell (record { value = v; stamp = fresh }))

@@ -5,7 +5,7 @@ use Rattle.counted.specs.Cell.{pack_cell}
 use Rattle.counted.specs.State.{last_stamp, writer_ok, reader_ok}
 use Rattle.counted.specs.Steps.{write_step, read_step}
 
--- "The fresh stamp is handed over at set_up, so that an older set can go on counting, and stands in every cell, with the start reading in
+-- "The fresh stamp is handed over at set-up, so that an older set can go on counting, and stands in every cell, with the start reading in
 -- the writer's cells and 0 elsewhere."
 unfoldable pub fresh_cells : ℕ → ℕ → ℕ → List ℕ
 fresh_cells n v fresh =

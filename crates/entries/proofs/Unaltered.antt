@@ -1,4 +1,4 @@
--- "A no gives its number and alters nothing": a refused set_up over a lent state leaves it, the table and the log as they were.
+-- "A no gives its number and alters nothing": a refused set-up over a lent state leaves it, the table and the log as they were.
 use Prim.Native.Nat.{ℕ}
 use mathlib.Core.Path.{◌≡◌, refl, sym, ap, ◌∙◌}
 use mathlib.Core.Bool.{Bool, true, false, ◌&&◌}

@@ -24,7 +24,7 @@ step_of s t l p = Register.step_of (rules_of s.head.counted) s t l p
 abbrev pub retire_of : State → List ℕ → List ℕ → ℕ → Outcome
 retire_of s t l p = Register.retire_of (rules_of s.head.counted) s t l p
 
--- set_up over a lent state: "A no gives its number and alters nothing."
+-- set-up over a lent state: "A no gives its number and alters nothing."
 abbrev pub unless_refused : Answer → State → State → State
 unless_refused Accepted s next = next
 unless_refused (Moved k) s next = next

@@ -21,7 +21,7 @@ use Rattle.figures.proofs.CostModel.{CostModel}
 use Rattle.figures.proofs.Spending.{all_sum, fresh_ok}
 use Rattle.figures.proofs.Alone.{Lasts, At, at_led, Reaches, all_alone}
 
--- set_up takes no fewer than 3 rows
+-- set-up takes no fewer than 3 rows
 pub rows_low : (writes reads : ℕ) → 3 ≤ rows_for writes reads
 unfolding rows_for
 rows_low writes reads = omega arith

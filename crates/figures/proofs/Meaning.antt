@@ -28,7 +28,7 @@ abbrev figures : Bool → ℕ → ℕ → ℕ → Figures
 figures counted n writes reads =
     record { rows = rows_for writes reads; least = least_words counted n writes reads; most = most_words counted n writes reads }
 
--- a log that set_up takes has 3 rows or more
+-- a log that set-up takes has 3 rows or more
 fit_low : (len : ℕ) → rows_fit len ≡ true → (3 ≤ len) × (len ≤ 4096)
 fit_low len e = (leb-true 3 len (left (leb 3 len) (leb len 4096) e), leb-true len 4096 (right (leb 3 len) (leb len 4096) e))
 

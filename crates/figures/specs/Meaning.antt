@@ -46,7 +46,7 @@ module _ {Stamp Cell : Type 0} (B : Telling Stamp Cell) (n v fresh writes reads 
     pub enough : (len : ℕ) → f.rows ≤ len → NoneFull B n v fresh len writes reads
     pub between : (len words : ℕ) (cs : List Call) → Ends B n v fresh len writes reads words cs → (f.least ≤ words) × (words ≤ f.most)
 
-  -- "the fewest that set_up takes and that do so for every schedule"; the least and the most words are those of some list
+  -- "the fewest that set-up takes and that do so for every schedule"; the least and the most words are those of some list
   pub record Sharp : Type 0 where
     pub fewest : (len : ℕ) → rows_fit len ≡ true → NoneFull B n v fresh len writes reads → f.rows ≤ len
     pub least_reached : (len : ℕ) → f.rows ≤ len → (cs : List Call) × Ends B n v fresh len writes reads f.least cs
@@ -59,7 +59,7 @@ Mean false n writes reads f = (v : ℕ) → v < 2 ^ 32 → Hold Tickets.book n v
 Mean true n writes reads f =
     (v fresh : ℕ) → v < 2 ^ 32 → Hold Counted.book n v fresh writes reads f × (fresh + writes ≤ last_stamp → Sharp Counted.book n v fresh writes reads f)
 
--- "more rows than 4,096": with no log that set_up takes is it so that no begin is refused 7
+-- "more rows than 4,096": with no log that set-up takes is it so that no begin is refused 7
 abbrev pub NoLog : Bool → ℕ → ℕ → ℕ → Type 0
 NoLog false n writes reads = (v len : ℕ) → v < 2 ^ 32 → rows_fit len ≡ true → NoneFull Tickets.book n v 0 len writes reads → ⊥
 NoLog true n writes reads =

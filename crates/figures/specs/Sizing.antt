@@ -7,7 +7,7 @@ use Rattle.common.specs.SetUp.{readers_fit}
 use Rattle.figures.specs.declared.Sizing.{Sizing}
 use Rattle.figures.specs.declared.Sizing.TheVariants.{Refused, Larger, TooLong, Sized}
 
--- "the log rows with which no begin is refused 7": row 0, and two for each operation; set_up takes no fewer than 3
+-- "the log rows with which no begin is refused 7": row 0, and two for each operation; set-up takes no fewer than 3
 unfoldable pub rows_for : ℕ → ℕ → ℕ
 rows_for writes reads = max 3 (2 * (writes + reads) + 1)
 

@@ -79,7 +79,7 @@ module _ (log : List ℕ) (formed : T (well_formed log)) (r : ℕ) (x : Read (hi
     may_stand = λ q. exactly (tests_band w (value_at log q) k);
   }
 
-  -- Every read of a well_formed_lem log that has ended did so with a result or with a band.
+  -- Every read of a well-formed log that has ended did so with a result or with a band.
   pub may_stand : MayStand log r
   unfolding kind_at row_ok
   may_stand =

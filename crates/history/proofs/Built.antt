@@ -17,6 +17,7 @@ use Rattle.words.specs.Choice.{pick}
 use Rattle.words.proofs.Laws.Choice.{eq→T, and_T, T-left, T-right}
 use Rattle.history.proofs.Rising.{stands_left, stands_right, stands_cases, Rising, rising_lower, rising_upper, rising_append, rising_lt, rising_before}
 use Rattle.history.specs.Sweep.{is_read}
+use Rattle.history.proofs.Grouped.{listed→, →listed}
 use Rattle.history.specs.Listing.{ends_behind, behind, is_listed, group, build}
 
 -- What the tests say.
@@ -69,6 +70,7 @@ module _ (h : History) (L : Laws h) (m : ℕ) (p : ℕ → ℕ) (q : ℕ) where
     where
       here : (b : Bool) → T b → h.begin k ≡ x → Stands (pick b (h.begin k ∷ []) []) 0 x
       here true t d = record { within = omega arith; there = d }
+      here false t d = elim t [ ]
 
       go : Dec (h.end x ≡ k) → (h.end x < k → (i : ℕ) × Stands (behind h m p q k) i x) → (i : ℕ) × Stands (behind h m p q (suc k)) i x
       go (yes d) f =
@@ -112,25 +114,6 @@ behind_rising h L m p q (suc e) =
     one false f = omega arith
 
 -- A group.
-pub listed→ : (h : History) (q n : ℕ) → T (is_listed h q n) → Write h q
-listed→ h q n t =
-    let u : T (eqb (h.kind q) 1 && ltb 0 q) = T-left (eqb (h.kind q) 1 && ltb 0 q) _ t in
-    record { is = eqb→eq _ _ (T-left (eqb (h.kind q) 1) _ u); real = ltb→lt _ _ (T-right (eqb (h.kind q) 1) _ u) }
-
-or_left : (a b : Bool) → T a → T (a || b)
-or_left true b t = tt
-
-or_right : (a b : Bool) → T b → T (a || b)
-or_right true b t = tt
-or_right false b t = t
-
-→listed : (h : History) (q n : ℕ) → Write h q → (h.end q < h.len) ⊎ (0 < n) → T (is_listed h q n)
-→listed h q n w c = and_T (eqb (h.kind q) 1 && ltb 0 q) _ (and_T (eqb (h.kind q) 1) _ (eq→T _ _ w.is) (lt→ltb _ _ w.real)) (go c)
-  where
-    go : (h.end q < h.len) ⊎ (0 < n) → T (ltb (h.end q) h.len || ltb 0 n)
-    go (inl a) = or_left (ltb (h.end q) h.len) (ltb 0 n) (lt→ltb _ _ a)
-    go (inr a) = or_right (ltb (h.end q) h.len) (ltb 0 n) (lt→ltb _ _ a)
-
 or→ : (a b : Bool) → T (a || b) → T a ⊎ T b
 or→ true b t = inl t
 or→ false b t = inr t
@@ -175,6 +158,7 @@ module _ (h : History) (L : Laws h) (m : ℕ) (p : ℕ → ℕ) (q : ℕ) where
     where
       go : (b : Bool) → T b → (i : ℕ) × Stands (pick b (q ∷ rs) rs) i q
       go true t = (0, record { within = omega arith; there = refl })
+      go false t = elim t [ ]
 
   group_read : (x : ℕ) → Read h m x → p x ≡ q → (i : ℕ) × Stands (group h m p q) i x
   unfolding group

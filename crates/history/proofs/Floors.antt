@@ -1,5 +1,5 @@
 -- The floors of the sweep, by their recursion.
-use Prim.Native.Nat.{ℕ, suc, zero, ◌≤◌, ◌-◌, max}
+use Prim.Native.Nat.{ℕ, suc, zero, ◌≤◌, max}
 use native.Mathlib.Omega.{arith}
 use mathlib.Core.Path.{◌≡◌, refl, ◌∙◌}
 use mathlib.Core.List.{[]}

@@ -1,4 +1,4 @@
--- The test of a well_formed_lem log says what one is.
+-- The test of a well-formed log says what one is.
 use Prim.Native.Nat.{ℕ, suc, zero, ◌<◌}
 use native.Mathlib.Omega.{arith}
 use native.Mathlib.Decide.{dec_lt}
@@ -10,7 +10,7 @@ use lib.ListN.{length, get_or}
 use Rattle.words.proofs.Laws.Choice.{pick_T, eq→T, and_T, T-left, T-right}
 use Rattle.history.specs.Rows.{kind_bits, processor_of, value_of, lowest, highest, processor_at, zero_at, begins_at}
 use Rattle.history.specs.WellFormed.{is_reader, head_ok, fields, open_at, alternates, row_ok, all, well_formed}
-use Rattle.history.specs.Form.{OneOf, Starts, Tells, write_begins, write_ends, read_begins, read_ends_lem, read_ends_in_band, Begins, LastRow, RowFormed, LogFormed}
+use Rattle.history.specs.Form.{OneOf, Starts, Tells, write_begins, write_ends, read_begins, read_ends, read_ends_in_band, Begins, LastRow, RowFormed, LogFormed}
 use Rattle.history.proofs.Tests.{Tests, both, either, equal, at_most, less, chosen, restated}
 use Rattle.history.proofs.Operations.{begin_is, all_at, open→, →open}
 
@@ -31,7 +31,7 @@ module _ (n k p z v : ℕ) where
       pick_T Says (eqb k 1) (λ e u. write_begins (eqb→eq k 1 e) (eqb→eq p 0 u))
       (λ _. pick_T Says (eqb k 2) (λ e u. write_ends (eqb→eq k 2 e) (eqb→eq p 0 (T-right (eqb v 0) _ u)) (eqb→eq v 0 (T-left (eqb v 0) _ u)))
       (λ _. pick_T Says (eqb k 3) (λ e u. read_begins (eqb→eq k 3 e) ((one_of n p).only_if (T-right (eqb v 0) _ u)) (eqb→eq v 0 (T-left (eqb v 0) _ u)))
-      (λ _. pick_T Says (eqb k 4) (λ e u. read_ends_lem (eqb→eq k 4 e) ((one_of n p).only_if u))
+      (λ _. pick_T Says (eqb k 4) (λ e u. read_ends (eqb→eq k 4 e) ((one_of n p).only_if u))
       (λ _. pick_T Says (eqb k 6)
       (λ e u. let x = (both (one_of n p) (at_most (lowest v) (highest v))).only_if u in read_ends_in_band (eqb→eq k 6 e) x.0 x.1)
       (λ _ u. absurd u))))) (T-right (eqb z 0) _ t)
@@ -41,7 +41,7 @@ module _ (n k p z v : ℕ) where
   →tells c (write_begins e q) = rw (c, e) (eq→T p 0 q)
   →tells c (write_ends e q r) = rw (c, e) (and_T (eqb v 0) _ (eq→T v 0 r) (eq→T p 0 q))
   →tells c (read_begins e q r) = rw (c, e) (and_T (eqb v 0) _ (eq→T v 0 r) ((one_of n p).if q))
-  →tells c (read_ends_lem e q) = rw (c, e) ((one_of n p).if q)
+  →tells c (read_ends e q) = rw (c, e) ((one_of n p).if q)
   →tells c (read_ends_in_band e q r) = rw (c, e) ((both (one_of n p) (at_most (lowest v) (highest v))).if (q, r))
 
   zero→ : T (fields k p z v n) → z ≡ 0

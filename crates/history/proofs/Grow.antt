@@ -1,5 +1,5 @@
 -- A log with one row more.
-use Prim.Native.Nat.{ℕ, suc, zero, ◌≤◌, ◌<◌, ◌+◌, ◌-◌}
+use Prim.Native.Nat.{ℕ, suc, zero, ◌≤◌, ◌<◌}
 use native.Mathlib.Omega.{arith}
 use native.Mathlib.Decide.{dec_lt}
 use mathlib.Core.Path.{◌≡◌, refl, ◌∙◌, sym}
@@ -103,7 +103,7 @@ module _ (log : List ℕ) (x : ℕ) where
       (and_T (ltb 0 (suc (length log))) _ (lt→ltb 0 (suc (length log)) (omega arith))
       (and_T (head_ok (get_or log 0 0)) _ (T-left (head_ok (get_or log 0 0)) _ v) (and_T (all (row_ok log) (length log)) _ (T-right (head_ok (get_or log 0 0)) _ v) r)))
 
-  -- The front of a well_formed_lem log is well formed.
+  -- The front of a well-formed log is well formed.
   pub formed_front : 0 < length log → T (well_formed (grown log x)) → T (well_formed log)
   unfolding well_formed
   formed_front p w =

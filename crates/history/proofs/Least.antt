@@ -1,5 +1,5 @@
 -- The sweep's placement is the least one, and it is one wherever there is one.
-use Prim.Native.Nat.{ℕ, suc, zero, ◌≤◌, ◌<◌, ◌-◌}
+use Prim.Native.Nat.{ℕ, suc, zero, ◌≤◌, ◌<◌}
 use native.Mathlib.Omega.{arith}
 use native.Mathlib.Decide.{ℕ_discrete, dec_lt}
 use mathlib.Core.Path.{◌≡◌, ◌∙◌, ap}
@@ -7,7 +7,8 @@ use lib.Dec.{T, eqb, eqb→eq}
 use Rattle.words.proofs.Laws.Choice.{pick_T, eq→T, and_T, T-left, T-right}
 use Rattle.history.specs.History.{History, Read, Suits}
 use Rattle.history.proofs.Placement.{Laws, Placement}
-use Rattle.history.proofs.Search.{first_ge, first_passes, first_least}
+use Rattle.history.proofs.Search.{first_least}
+use Rattle.history.proofs.Sought.{place_ge, place_good}
 use Rattle.history.specs.Sweep.{floors, is_source, place_at, adds, floor, place}
 use Rattle.history.proofs.Floors.{floor_suc}
 
@@ -48,14 +49,6 @@ module _ (h : History) (L : Laws h) where
   floor_least B zero f = omega arith
   floor_least B (suc k) f = omega (arith, floor_suc h k (L.back k), floor_least B k (λ j a. f j (omega arith)), f k (omega arith))
 
-  place_ge : (r : ℕ) → floor h r ≤ place h r
-  unfolding place place_at
-  place_ge r = first_ge (is_source h _) _ _
-
-  place_good : (r : ℕ) → place h r < h.end r → T (is_source h (h.end r) (place h r))
-  unfolding place place_at
-  place_good r l = first_passes (is_source h _) _ _ (omega (arith, first_ge (is_source h (h.end r)) (floor h r) (h.end r - floor h r)))
-
   place_least : (r q : ℕ) → floor h r ≤ q → q < h.end r → h.kind q ≡ 1 → Suits h q r → place h r ≤ q
   unfolding place place_at
   place_least r q a b k v = first_least (is_source h _) _ _ q a (omega arith) (→good h _ q k v)
@@ -84,11 +77,11 @@ module _ (h : History) (L : Laws h) where
 
   pub sound : (m : ℕ) → Found m → Placement h m (place h)
   sound m f = record {
-    source = λ r x. (good→ h _ _ (place_good r (f r x))).0;
-    suits = λ r x. (good→ h _ _ (place_good r (f r x))).1;
+    source = λ r x. (good→ h _ _ (place_good h r (f r x))).0;
+    suits = λ r x. (good→ h _ _ (place_good h r (f r x))).1;
     early = f;
-    late = λ w r e x a. omega (arith, floor_write w r e a (omega (arith, L.read_end r x.is)), place_ge r);
-    mono = λ r s x y a. omega (arith, floor_read r s x.is a (omega (arith, L.read_end s y.is)), place_ge s);
+    late = λ w r e x a. omega (arith, floor_write w r e a (omega (arith, L.read_end r x.is)), place_ge h r);
+    mono = λ r s x y a. omega (arith, floor_read r s x.is a (omega (arith, L.read_end s y.is)), place_ge h s);
   }
 
   module _ (m : ℕ) (p : ℕ → ℕ) (P : Placement h m p) where

@@ -3,10 +3,12 @@ pub mod Search
 pub mod Bands
 pub mod Placement
 pub mod Floors
+pub mod Sought
 pub mod Least
 pub mod LastWrite
 pub mod FromOrder
 pub mod Rising
+pub mod Grouped
 pub mod Built
 pub mod Operations
 pub mod Form

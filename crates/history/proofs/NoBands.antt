@@ -11,7 +11,7 @@ use Rattle.words.proofs.Laws.Choice.{T-left, T-right}
 use Rattle.history.specs.Rows.{kind_bits}
 use Rattle.history.specs.WellFormed.{head_ok, well_formed}
 use Rattle.history.specs.Bands.{NoBands}
-use Rattle.history.specs.Stepwise.{Stepwise, starts, write_begins, write_ends, read_begins, read_ends_lem}
+use Rattle.history.specs.Stepwise.{Stepwise, starts, write_begins, write_ends, read_begins, read_ends}
 use Rattle.history.proofs.Grow.{grown, grown_length, grown_at}
 use Rattle.history.proofs.Stepwise.{swept_some}
 
@@ -33,11 +33,11 @@ more log x some low f p k = elim (dec_lt k (length log)) [
 
 -- The rows behind the first have the kinds 1 to 4.
 from_head : {log : List ℕ} {F : ℕ} {fl : ℕ → ℕ} {w : ℕ} → Stepwise log F fl w → Plain log
-from_head (starts x fl) = λ p k. elim k [ zero ↦ p | suc j ↦ no_row (x ∷ []) (suc j) (omega arith) ]
+from_head (starts x fl) = λ p k. elim k as (λ (k : ℕ). kind_bits (get_or (x ∷ []) k 0) ≢ 6) [ zero ↦ p | suc j ↦ no_row (x ∷ []) (suc j) (omega arith) ]
 from_head (write_begins {log = l} x e o s) = more l x (swept_some s) (omega arith) (from_head s)
 from_head (write_ends {log = l} x e o s) = more l x (swept_some s) (omega arith) (from_head s)
 from_head (read_begins {log = l} x i e o s) = more l x (swept_some s) (omega arith) (from_head s)
-from_head (read_ends_lem {log = l} x i q e o S h s) = more l x (swept_some s) (omega arith) (from_head s)
+from_head (read_ends {log = l} x i q e o S h s) = more l x (swept_some s) (omega arith) (from_head s)
 
 pub swept_plain : {log : List ℕ} {F : ℕ} {fl : ℕ → ℕ} {w : ℕ} → Stepwise log F fl w → T (well_formed log) → NoBands log
 unfolding well_formed head_ok

@@ -1,4 +1,4 @@
--- The rows of a well_formed_lem log by their fields, and a processor's open operation.
+-- The rows of a well-formed log by their fields, and a processor's open operation.
 use Prim.Native.Nat.{ℕ, suc, zero, ◌≤◌, ◌<◌}
 use native.Mathlib.Omega.{arith}
 use native.Mathlib.Decide.{ℕ_discrete}
@@ -13,7 +13,7 @@ use Rattle.words.proofs.Laws.Choice.{pick_T, eq→T, T-left, T-right, T→true, 
 use Rattle.history.specs.Rows.{kind_told, kind_of, kind_at, processor_at, zero_at, value_at, begins_at, begins}
 use Rattle.history.specs.WellFormed.{open_at, is_reader, fields, fields_ok, alternates, row_ok, all}
 
--- What a well_formed_lem row says.
+-- What a well-formed row says.
 pub record RowOk (log : List ℕ) (k : ℕ) : Type 0 where
   pub low : 1 ≤ kind_at log k
   pub high : kind_at log k ≤ 4

@@ -1,9 +1,9 @@
--- What a well_formed_lem log's history meets, and placements: an order seen from its reads.
+-- What a well-formed log's history meets, and placements: an order seen from its reads.
 use Prim.Native.Nat.{ℕ, zero, ◌≤◌, ◌<◌}
 use mathlib.Core.Path.{◌≡◌}
 use Rattle.history.specs.History.{History, Read, Suits}
 
--- What every well_formed_lem log's history meets.
+-- What every well-formed log's history meets.
 pub record Laws (h : History) : Type 0 where
   pub start : h.kind 0 ≡ 1
   pub start_end : h.end 0 ≡ 0

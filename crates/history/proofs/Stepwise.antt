@@ -1,5 +1,5 @@
--- A well_formed_lem log that can be swept has an order: the sources of its reads are a placement.
-use Prim.Native.Nat.{ℕ, suc, ◌-◌, ◌≤◌, ◌<◌, max}
+-- A well-formed log that can be swept has an order: the sources of its reads are a placement.
+use Prim.Native.Nat.{ℕ, suc, ◌≤◌, ◌<◌, max}
 use mathlib.Core.Path.{◌≡◌, refl, sym, ap, ◌∙◌}
 use mathlib.Core.Logic.{◌≢◌}
 use mathlib.Core.List.{List, [], ◌∷◌}
@@ -16,7 +16,7 @@ use Rattle.words.proofs.Laws.Update.{upd_same, upd_other}
 use Rattle.history.specs.Rows.{kind_bits, processor_of, value_of, kind_at, processor_at, value_at, begins_at}
 use Rattle.history.specs.WellFormed.{open_at, well_formed}
 use Rattle.history.specs.History.{History, event_at, end_at, history_of, Read}
-use Rattle.history.specs.Stepwise.{Source, Stepwise, starts, write_begins, write_ends, read_begins, read_ends_lem}
+use Rattle.history.specs.Stepwise.{Source, Stepwise, starts, write_begins, write_ends, read_begins, read_ends}
 use Rattle.history.proofs.Bands.{kind_plain, tests_result}
 use Rattle.history.proofs.Placement.{Laws, Placement}
 use Rattle.history.proofs.Operations.{begin_is as begin_kind, open_suc, open_le, open→}
@@ -281,7 +281,7 @@ swept_some (starts x fl) = omega arith
 swept_some (write_begins x e o s) = rw length-append (omega arith)
 swept_some (write_ends x e o s) = rw length-append (omega arith)
 swept_some (read_begins x i e o s) = rw length-append (omega arith)
-swept_some (read_ends_lem x i q e o S h s) = rw length-append (omega arith)
+swept_some (read_ends x i q e o S h s) = rw length-append (omega arith)
 
 swept_inv : {log : List ℕ} {F : ℕ} {fl : ℕ → ℕ} {w : ℕ} → Stepwise log F fl w → T (well_formed log) → (p : ℕ → ℕ) × Inv log F fl w p
 swept_inv (starts x fl) ok = (λ _. 0, start_inv x fl ok)
@@ -297,7 +297,7 @@ swept_inv (read_begins {log = l} {F = F} {fl = fl} {w = w} x i e o s) ok =
     let f = formed_front l x (swept_some s) ok in
     let z = swept_inv s f in
     (z.0, inv_read_begins l f F fl w z.0 z.1 x ok i e o)
-swept_inv (read_ends_lem {log = l} {F = F} {fl = fl} {w = w} x i q e o S h s) ok =
+swept_inv (read_ends {log = l} {F = F} {fl = fl} {w = w} x i q e o S h s) ok =
     let f = formed_front l x (swept_some s) ok in
     let z = swept_inv s f in
     (upd z.0 (open_at l (suc i) (length l)) q, inv_read_ends l f F fl w z.0 z.1 x ok i q e o S h)

@@ -1,4 +1,4 @@
--- What holds of a well_formed_lem log, in one place.
+-- What holds of a well-formed log, in one place.
 use Prim.Native.Nat.{ℕ, ◌≤◌}
 use mathlib.Core.Path.{◌≡◌, sym, ◌∙◌}
 use mathlib.Core.Logic.{◌↔◌}

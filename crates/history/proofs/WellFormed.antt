@@ -1,4 +1,4 @@
--- A well_formed_lem log's history meets the laws of histories.
+-- A well-formed log's history meets the laws of histories.
 use Prim.Native.Nat.{ℕ, suc, zero, ◌≤◌, ◌<◌, ◌-◌}
 use native.Mathlib.Omega.{arith}
 use native.Mathlib.Decide.{ℕ_discrete, dec_lt}

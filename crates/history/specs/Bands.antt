@@ -1,5 +1,5 @@
 -- What a read may stand behind, in the papers' words, by the row that ends it. It is said here a second time, beside `suits`; that
--- both say the same of every ended read of a well_formed_lem log is proved (proofs/Bands).
+-- both say the same of every ended read of a well-formed log is proved (proofs/Bands).
 use Rattle.std.specs.Prelude.{ℕ, ◌+◌, ◌*◌, ◌≤◌, ◌<◌, ◌≡◌, ◌⊎◌, ◌↔◌, ◌≢◌, List, get_or}
 use Rattle.history.specs.Rows.{kind_bits, value_at}
 use Rattle.history.specs.History.{end_at, history_of, Suits}

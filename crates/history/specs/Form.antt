@@ -1,4 +1,4 @@
--- What a well_formed_lem log is: question 10 in the papers' words, which its test (WellFormed) asks.
+-- What a well-formed log is: question 10 in the papers' words, which its test (WellFormed) asks.
 use Rattle.std.specs.Prelude.{ℕ, ◌≤◌, ◌<◌, ◌≡◌, ◌⊎◌, ◌≢◌, List, length, get_or}
 use Rattle.words.specs.Row.{zero_bits}
 use Rattle.history.specs.Rows.{kind_bits, processor_of, value_of, lowest, highest, kind_at, processor_at, zero_at}
@@ -21,7 +21,7 @@ pub data Tells (n k p v : ℕ) : Type 0 where
   write_begins : k ≡ 1 → p ≡ 0 → Tells n k p v
   write_ends : k ≡ 2 → p ≡ 0 → v ≡ 0 → Tells n k p v
   read_begins : k ≡ 3 → OneOf n p → v ≡ 0 → Tells n k p v
-  read_ends_lem : k ≡ 4 → OneOf n p → Tells n k p v
+  read_ends : k ≡ 4 → OneOf n p → Tells n k p v
   read_ends_in_band : k ≡ 6 → OneOf n p → lowest v ≤ highest v → Tells n k p v
 
 -- row k begins an operation

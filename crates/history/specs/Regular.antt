@@ -4,7 +4,7 @@ use Rattle.history.specs.History.{History, history_of, Write, Read, Precedes}
 use Rattle.history.specs.ReadsFrom.{AnyWrite, Action, ReadsFrom}
 
 -- What the report takes for granted of precedence ("An operation then precedes another if the finish time of the first is before the start
--- time of the second."), and where the card puts the start and an unended write. So it is in a well_formed_lem log (Theorems.precedence).
+-- time of the second."), and where the card puts the start and an unended write. So it is in a well-formed log (Theorems.precedence).
 pub record Precedence (h : History) : Type 0 where
   -- "there is a precedence relation among the operations (which is a strict partial ordering i.e., irreflexive and transitive)"
   pub irreflexive : (a : ℕ) → Action h a → ¬ Precedes h a a

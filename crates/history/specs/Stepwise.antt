@@ -20,5 +20,5 @@ pub data Stepwise : List ℕ → ℕ → (ℕ → ℕ) → ℕ → Type 0 where
       → Stepwise (log ++ (x ∷ [])) (max F w) fl w
   read_begins : {log : List ℕ} {F : ℕ} {fl : ℕ → ℕ} {w : ℕ} (x i : ℕ) → kind_bits x ≡ 3 → processor_of x ≡ suc i → Stepwise log F fl w
       → Stepwise (log ++ (x ∷ [])) F (upd fl i F) w
-  read_ends_lem : {log : List ℕ} {F : ℕ} {fl : ℕ → ℕ} {w : ℕ} (x i q : ℕ) → kind_bits x ≡ 4 → processor_of x ≡ suc i
+  read_ends : {log : List ℕ} {F : ℕ} {fl : ℕ → ℕ} {w : ℕ} (x i q : ℕ) → kind_bits x ≡ 4 → processor_of x ≡ suc i
       → Source log q (value_of x) → fl i ≤ q → Stepwise log F fl w → Stepwise (log ++ (x ∷ [])) (max F q) fl w

@@ -3,14 +3,14 @@
 -- array of more than 64 elements."
 use Rattle.std.specs.Prelude.{ℕ, ◌+◌, ◌*◌, ◌≡◌, Bool, true, false, ◌&&◌, ◌||◌, List, [], ◌∷◌, ◌++◌, T, leb, take}
 use lib.Text.{eqt}
-use mir.Syntax.{Ty, ty_int, ty_bool, ty_float, ty_ptr, ty_ref, ty_array, ty_unit, ty_struct, ty_enum, ty_named, Tys, tnil, tcons, Tyss, ttnil, ttcons, imm, mut, Step, deref, field, variant, Place, place, Name, Body, skip, seq, assign, block, loop, cond, switch, exit, return, call, Arms, arm, default, no_default, Local, local, Fn}
+use mir.Syntax.{Ty, ty_int, ty_bool, ty_float, ty_ptr, ty_ref, ty_array, ty_unit, ty_struct, ty_enum, ty_param, ty_const, ty_array_p, ty_named, Tys, tnil, tcons, Tyss, ttnil, ttcons, imm, mut, Step, deref, field, variant, Place, place, Symbol, Dicts, dnil, dcons, Callee, fn, method, forked, awaited, prim, Body, skip, seq, assign, block, loop, cond, switch, exit, return, call, unreachable, call_v, lend_static, Arms, arm, default, no_default, Local, local, Fn}
 
 -- "no array of more than 64 elements"
 abbrev most : ℕ
 most = 64
 
--- How many numbers a value of a type holds. A reference is one: what it refers to is kept elsewhere. Of a type that is only named
--- nothing is known, so it counts as too many.
+-- How many numbers a value of a type holds. A reference is one: what it refers to is kept elsewhere. Of a type that is only named, or
+-- is a parameter, or an array of a length that is one, nothing is known, so it counts as too many.
 abbrev mutual
   pub numbers : Ty → ℕ
   numbers (ty_int w) = 1
@@ -22,7 +22,10 @@ abbrev mutual
   numbers ty_unit = 0
   numbers (ty_struct s ts) = numbers_in ts
   numbers (ty_enum s vs) = 1 + numbers_of vs
-  numbers (ty_named h) = most + 1
+  numbers (ty_param i) = most + 1
+  numbers (ty_const n) = most + 1
+  numbers (ty_array_p t i) = most + 1
+  numbers (ty_named h ts) = most + 1
 
   numbers_in : Tys → ℕ
   numbers_in tnil = 0
@@ -37,10 +40,13 @@ abbrev pub few : List Local → Bool
 few [] = true
 few (local t h ∷ ls) = leb (numbers t) most && few ls
 
--- What a body does that others may notice: it calls a function, or writes where a reference or a pointer leads.
+-- What a body does that others may notice: it calls a function, or writes where a reference or a pointer leads. Or it does what is not
+-- looked into here, which may be anything: it calls what a pointer, a type argument or a dictionary leads to, has to do with a thread or
+-- an atomic number, or keeps a constant in memory of its own.
 pub data Act : Type 0 where
-  calls : Name → Act
+  calls : Symbol → Act
   writes : Act
+  unseen : Act
 
 abbrev behind : List Step → List Act
 behind [] = []
@@ -50,6 +56,19 @@ behind (variant k ∷ ss) = behind ss
 
 abbrev to : Place → List Act
 to (place k ss) = behind ss
+
+-- a call of a function, which is told no types and no dictionaries
+abbrev told : Symbol → Tys → Dicts → List Act
+told f tnil dnil = calls f ∷ []
+told f tnil (dcons d ds) = unseen ∷ []
+told f (tcons t ts) ds = unseen ∷ []
+
+abbrev calling : Callee → List Act
+calling (fn f a) = told f a.0 a.1
+calling (method d k a) = unseen ∷ []
+calling (forked ts c) = unseen ∷ []
+calling (awaited ts) = unseen ∷ []
+calling (prim a) = unseen ∷ []
 
 -- its acts in the order in which they can come: those of a loop twice, since its first may come after its last
 abbrev mutual
@@ -63,7 +82,10 @@ abbrev mutual
   acts (switch c bs) = acts_of bs
   acts (exit k) = []
   acts return = []
-  acts (call f xs p) = calls f ∷ to p
+  acts (call c xs p) = calling c ++ to p
+  acts unreachable = []
+  acts (call_v x s xs p) = unseen ∷ to p
+  acts (lend_static p t c) = unseen ∷ to p
 
   acts_of : Arms → List Act
   acts_of (arm ks b bs) = acts b ++ acts_of bs
@@ -71,7 +93,7 @@ abbrev mutual
   acts_of no_default = []
 
 -- the judge of rows: `judge`, and what it calls
-abbrev pub of_rows : List Name
+abbrev pub of_rows : List Symbol
 of_rows =
     "judge::rows::judge"
     ∷ "judge::rows::settle"
@@ -107,18 +129,19 @@ of_rows =
     ∷ "judge::order::begin_of"
     ∷ []
 
-abbrev among : List Name → Name → Bool
+abbrev among : List Symbol → Symbol → Bool
 among [] f = false
 among (g ∷ gs) f = eqt g f || among gs f
 
--- no function is called but those of names
-abbrev pub stays_inside : List Name → List Act → Bool
+-- no function is called but those of names, and nothing done that is not looked into
+abbrev pub stays_inside : List Symbol → List Act → Bool
 stays_inside names [] = true
 stays_inside names (calls f ∷ xs) = among names f && stays_inside names xs
 stays_inside names (writes ∷ xs) = stays_inside names xs
+stays_inside names (unseen ∷ xs) = false
 
 -- f keeps no array of more than 64 elements, and calls no function but those of names
-pub record KeepsLittleAmong (names : List Name) (f : Fn) : Type 0 where
+pub record KeepsLittleAmong (names : List Symbol) (f : Fn) : Type 0 where
   pub small : T (few f.locals)
   pub inside : T (stays_inside names (acts f.body))
 
@@ -144,7 +167,10 @@ abbrev mutual
   mutable ty_unit = false
   mutable (ty_struct s ts) = mutable_in ts
   mutable (ty_enum s vs) = mutable_of vs
-  mutable (ty_named h) = true
+  mutable (ty_param i) = true
+  mutable (ty_const n) = true
+  mutable (ty_array_p t i) = true
+  mutable (ty_named h ts) = true
 
   mutable_in : Tys → Bool
   mutable_in tnil = false
@@ -159,5 +185,7 @@ any_mutable [] = false
 any_mutable (local t h ∷ ls) = mutable t || any_mutable ls
 
 -- And `settle` is lent nothing that it could write to: no parameter is such, nor its result, which is local 0.
+-- (A step on an atomic number could write behind a shared reference. It is `unseen`, so that `keeps_little` refuses it in `settle` and
+-- in what it calls.)
 pub record LentNothing (f : Fn) : Type 0 where
   pub read_only : any_mutable (take (f.params + 1) f.locals) ≡ false

@@ -27,7 +27,7 @@ pub →right : (log : List ℕ) → RightLength log → T (right_length (length 
 pub wrong : (log : List ℕ) → right_length (length log) ≡ false → RightLength log → ⊥
 wrong log e s = rw e at (→right log s)
 
--- a well_formed_lem log passes its test
+-- a well-formed log passes its test
 pub tested : {log : List ℕ} → Formed log → T (well_formed log)
 tested {log} F = (log_formed log).if F.formed
 

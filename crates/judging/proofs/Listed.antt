@@ -18,7 +18,7 @@ use Rattle.history.proofs.Rising.{Rising}
 use Rattle.history.specs.Listing.{build, listing}
 use Rattle.history.proofs.Built.{key, key_bound, behind_has, only, has_read, has_write, build_rising, build_needed}
 use Rattle.history.proofs.Verdict.{found}
-use Rattle.history.specs.Rows.{kind_at, processor_at, begins}
+use Rattle.history.specs.Rows.{kind_at, processor_at}
 use Rattle.history.specs.WellFormed.{open_at, well_formed}
 use Rattle.history.proofs.Operations.{RowOk, begin_is, Opened, open→, →open}
 use Rattle.history.proofs.WellFormed.{begin→, row, kind_is, laws}

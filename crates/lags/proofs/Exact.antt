@@ -54,7 +54,7 @@ module _ (log : List ℕ) (w : T (well_formed log)) (swept : length log ≤ miss
       let p : A.position ≡ B.position = E.order.once A.position B.position r A.stands B.stands in
       let b : A.behind ≡ B.behind = A.behind_is ∙ ap (last_write (history_of log) (listing log)) p ∙ sym B.behind_is in
       let k : A.rank ≡ B.rank = one_number A.rank_is (rw b B.rank_is) in
-      omega (arith, one_number A.begun_before_lem B.begun_before_lem, A.less, B.less)
+      omega (arith, one_number A.begun_count B.begun_count, A.less, B.less)
 
   -- and a reader one line
   module _ (i k s : ℕ) (A : LineOf log (listing log) i k s) where

@@ -150,8 +150,8 @@ module _ {log : List ℕ} {k : ℕ} {bs fs gs rs ls : List ℕ} {t u n : ℕ} (F
 
   -- At row k, of processor p.
   module _ (inside : k < length log) {p : ℕ} (e : p ≡ processor_of row) where
-    pub in_range_lem : p < processors
-    in_range_lem = processor_in log F.formed k bs fs t S inside e
+    pub is_in_range : p < processors
+    is_in_range = processor_in log F.formed k bs fs t S inside e
 
     pub reads_room : {x : ℕ} → x ≡ pick (eqb (kind_of row) 4) 1 0 → get_or rs p 0 + x < 2 ^ 64
     reads_room a =
@@ -213,7 +213,7 @@ module _ {log : List ℕ} {k : ℕ} {bs fs gs rs ls : List ℕ} {t u n : ℕ} (F
               → t' ≡ max t q → u' ≡ max u m → n' ≡ with_write row n
               → Fills log (k + 1) (set bs p o) (set fs p f') (set gs p g') (set rs p (get_or rs p 0 + x)) (set ls p (get_or ls p 0 + y)) t' u' n'
           fills_next i j r s v z =
-              let small = in_range_lem in
+              let small = is_in_range in
               let size = ap length S.floors ∙ (linked log F.formed k S.from S.upto).size in
               record {
                 formed = F.formed;

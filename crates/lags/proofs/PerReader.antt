@@ -123,7 +123,7 @@ module _ (log : List ℕ) (w : T (well_formed log)) where
         let less : lag_of log (listing log) r + rank_of log q ≡ begun_before log (end_at log r) = omega (arith, rank_before log b) in
         record {
           begun = begun_before log (end_at log r);
-          begun_before_lem = number_begun log (end_row r x).0;
+          begun_count = number_begun log (end_row r x).0;
           behind = q;
           position = position_in (listing log) r;
           stands = position_at (listing log) s.0 r s.1;

@@ -47,6 +47,7 @@ module _ (t : ℕ → Bool) (g : ℕ → ℕ) where
     where
       here : e ≡ k → (b : Bool) → T b → Stands (pick b (g k ∷ []) []) 0 (g e)
       here d true v = record { within = omega arith; there = ap g (sym d) }
+      here d false v = elim v [ ]
 
   pub picked_none : (k : ℕ) → ((e : ℕ) → e < k → T (t e) → ⊥) → picked t g k ≡ []
   unfolding picked

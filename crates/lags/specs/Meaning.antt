@@ -29,7 +29,7 @@ pub record Number (P : ℕ → Type 0) (n : ℕ) : Type 0 where
 pub record LagIs (log l : List ℕ) (r n : ℕ) : Type 0 where
   -- "writes begun before its end row"
   pub begun : ℕ
-  pub begun_before_lem : Number (λ w. Write (history_of log) w × (w < end_at log r)) begun
+  pub begun_count : Number (λ w. Write (history_of log) w × (w < end_at log r)) begun
   -- "the one it stands behind in the judge's order": a write, or the start, row 0
   pub behind : ℕ
   pub position : ℕ

@@ -34,7 +34,7 @@ use Rattle.register.specs.Contract.{outcome}
 use Rattle.lists.specs.Run.{MadeCalls, made_of, made_calls, run_words_of, WholeRun}
 use Rattle.kinds.proofs.Laws.{kind_is}
 
--- The kind of register is what set_up made it.
+-- The kind of register is what set-up made it.
 module _ (R : Rules) where
   pub kind_after : (s : State) (t l : List ℕ) (c : Call) (r : Called) (t' l' : List ℕ) → outcome r t' l' ≡ call_of R s t l c
       → r.state.head.counted ≡ s.head.counted
@@ -189,7 +189,7 @@ module _ (R : Rules) (s : State) (t l words places : List ℕ) (i : ℕ) where
         (ap (λ (o : Outcome). onward R o.state o.table o.log words (set places i (answer_word o.answer)) (suc i)) o
         ∙ sym (goes_on e))
 
--- A run: set_up, and its calls.
+-- A run: set-up, and its calls.
 module _ (R : Rules) (n v fresh : ℕ) (t l words places : List ℕ) where
   module _ (c : Called) (t' l' : List ℕ) (o : outcome c t' l' ≡ set_up_of R n v fresh t l) where
     runs_on : answer_word c.answer ≡ 0 → made_of R c.state t' l' words places ≡ run_words_of R n v fresh words t l places

@@ -38,7 +38,7 @@ made_of R s t l words places =
       places = map answer_word r.answers ++ drop (length cs) places;
     }
 
--- set_up, and then the calls; none if it is refused
+-- set-up, and then the calls; none if it is refused
 unfoldable pub run_words_of : Rules → ℕ → ℕ → ℕ → List ℕ → List ℕ → List ℕ → List ℕ → MadeCalls
 run_words_of R n v fresh words t l places =
     let o = set_up_of R n v fresh t l in
@@ -57,10 +57,10 @@ module _ {Stamp Cell : Type 0} (R : Rules) (B : Telling Stamp Cell) (W : List Ca
     pub rows_are : take m.state.head.used m.log ≡ (model_of B n v fresh l (calls_in words places)).model.rows
     -- (02) "the book keeps that set": the state's retired readers are the book's
     pub retired_are : (p : ℕ) → p ≤ n → is_retired m.state p ≡ (model_of B n v fresh l (calls_in words places)).model.retired p
-    -- (02) "it equals the count after set_up and after each call that passes question 4", in the state and in the book
+    -- (02) "it equals the count after set-up and after each call that passes question 4", in the state and in the book
     pub opens_is : m.state.head.opens ≡ open_in m.state
     pub opens_in_book : m.state.head.opens ≡ open_count n (model_of B n v fresh l (calls_in words places)).model
-    -- "every cell and row beyond is as set_up left it"
+    -- "every cell and row beyond is as set-up left it"
     pub cells_beyond : drop (R.cells n) m.table ≡ drop (R.cells n) (set_up_of R n v fresh t l).table
     pub rows_beyond : drop m.state.head.used m.log ≡ drop m.state.head.used (set_up_of R n v fresh t l).log
     -- "and that log has such an order"

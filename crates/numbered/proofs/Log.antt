@@ -10,7 +10,7 @@ use Rattle.words.specs.Update.{upd}
 use Rattle.words.proofs.Laws.Update.{upd_elim, upd_same, upd_other}
 use Rattle.history.specs.Rows.{kind_bits, kind_of, value_of, kind_at, value_at}
 use Rattle.history.specs.History.{event_at}
-use Rattle.history.specs.Stepwise.{Source, Stepwise, starts, write_begins, write_ends, read_begins, read_ends_lem}
+use Rattle.history.specs.Stepwise.{Source, Stepwise, starts, write_begins, write_ends, read_begins, read_ends}
 use Rattle.history.proofs.Bands.{kind_plain}
 use Rattle.history.proofs.Grow.{grown, grown_length, grown_val, grown_kind_of}
 use Rattle.numbered.proofs.Splits.{eq_or, lt_or}
@@ -177,7 +177,7 @@ module _ (n : ℕ) (val : ℕ → ℕ) where
           let above : r.fl i ≤ r.row m = omega (arith, r.floors i f hi e, r.rise f m fm mK) in
           let from : Source log (r.row m) (value_of (row_of 4 (suc i) u)) = rw (row_value 4 (suc i) u low, eu) (r.source m mK) in
           rw top
-          (read_ends_lem (row_of 4 (suc i) u) i (r.row m) (row_kind 4 (suc i) u (omega arith)) (row_processor 4 (suc i) u (omega arith)) from above r.swept);
+          (read_ends (row_of 4 (suc i) u) i (r.row m) (row_kind 4 (suc i) u (omega arith)) (row_processor 4 (suc i) u (omega arith)) from above r.swept);
       floors = λ j g. upd_elim (λ j y. j < n → floor_of y.ph ≡ suc g → r.fl j ≡ r.row g) me i x
           (λ h q. absurd (idle_not g q)) (λ j ne h q. r.floors j g h q) j;
       rise = r.rise;

@@ -70,7 +70,7 @@ module _ (s : State) (t l : List ℕ) where
 
   module _ (k : InRange ticket_rules s (length t) (length l)) where
     writer_low : s.writer.active ≡ true → s.writer.moved + 1 < 2 ^ 32
-    writer_low a = omega (arith, (writer_in s.head.n s.writer k.writer_ok_lem).moved_low a, k.head_good.n_high)
+    writer_low a = omega (arith, (writer_in s.head.n s.writer k.writer_passes).moved_low a, k.head_good.n_high)
 
     reader_low : (p : ℕ) → 1 ≤ p → p ≤ s.head.n → is_retired s p ≡ false → (reader_at s (p - 1)).active ≡ true → (reader_at s (p - 1)).moved + 1 < 2 ^ 32
     reader_low p a b free active =

@@ -33,7 +33,7 @@ use Rattle.printing.proofs.Answers.{rows_same, set_up_same}
 use Rattle.printing.proofs.Calls.{made}
 use Rattle.printing.proofs.Laws.{cells_fit}
 
--- The set_up of 1 to 16 readers, with a log of 3 to 4,096 rows.
+-- The set-up of 1 to 16 readers, with a log of 3 to 4,096 rows.
 pub set_up_accepted : (n v : ℕ) (l : List ℕ) → 1 ≤ n → n ≤ 16 → rows_fit (length l) ≡ true → (set_up_of ticket_rules n v 0 lent_cells l).answer ≡ Accepted
 unfolding set_up_of
 set_up_accepted n v l a b c = rw (le-leb 1 n a, le-leb n 16 b, le-leb (n * n + n) 272 (cells_fit n b), c)

@@ -21,7 +21,7 @@ use Rattle.printing.specs.Print.{lent_cells}
 use Rattle.printing.specs.Drill.{turn_call, drill_calls, drill_rows, turn_letters, drill_line}
 use Rattle.printing.proofs.Book.{set_up_accepted, book_rows, run_as_book, run_ends_with_order}
 
--- "then n not 1 to 16 `refused 1`": so says the set_up, and it refuses nothing else
+-- "then n not 1 to 16 `refused 1`": so says the set-up, and it refuses nothing else
 module _ (n v : ℕ) where
   pub refused_as_set_up : readers_fit n ≡ false → (set_up_of ticket_rules n v 0 lent_cells drill_rows).answer ≡ Refused Readers
   unfolding set_up_of

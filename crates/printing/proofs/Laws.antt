@@ -114,7 +114,7 @@ enough_for_sheet b = enough_bytes sheet_text sheet_nine b
 pub cells_fit : (n : ℕ) → n ≤ 16 → n * n + n ≤ 272
 cells_fit n h = omega (arith, mul-le-mul_left n h)
 
--- "The log has 4,096 rows.", by what an accepted set_up records
+-- "The log has 4,096 rows.", by what an accepted set-up records
 pub log_rows : (n v : ℕ) → 1 ≤ n → n ≤ 16 → (set_up_of ticket_rules n v 0 lent_cells lent_rows).state.head.rows ≡ 4096
 unfolding set_up_of
 log_rows n v a b = rw (le-leb 1 n a, le-leb n 16 b, le-leb (n * n + n) 272 (cells_fit n b))

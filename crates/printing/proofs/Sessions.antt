@@ -107,7 +107,7 @@ table =
     ∷ bench "01 007\nW 0009\n" "readers 1 start 7\n1 W 9\norder\n"
     -- "A refused call prints `refused k` when it is met, ahead of the listing"
     ∷ bench "1 7\nR 2\nS 0\nW 4\nW 5\n" "refused 5\nrefused 8\nrefused 6\nreaders 1 start 7\n1 W 4\norder\n"
-    -- "a refused set_up is the whole print"
+    -- "a refused set-up is the whole print"
     ∷ bench "0 7\n" "refused 1\n"
     ∷ bench "17 7\nW\n" "refused 1\n"
     -- "Anything else prints `bad line k`, k from 1, and ends without a listing"; "each line ends with a line feed"

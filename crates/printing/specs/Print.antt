@@ -37,7 +37,7 @@ next_line bytes = length (calls bytes) + 2
 abbrev pub bad_behind : List ℕ → Bool
 bad_behind bytes = ltb (end_from (length bytes) bytes (second_line bytes)) (length bytes)
 
--- The calls, made behind the set_up o. "Anything else prints `bad line k`, k from 1, and ends without a listing"
+-- The calls, made behind the set-up o. "Anything else prints `bad line k`, k from 1, and ends without a listing"
 unfoldable pub calls_print : ℕ → ℕ → List ℕ → Outcome → List ℕ
 calls_print n start bytes o =
     let r = run_of ticket_rules o.state o.table o.log (map call_in (calls bytes)) in
@@ -51,7 +51,7 @@ lent_cells = replicate 272 0
 abbrev pub lent_rows : List ℕ
 lent_rows = replicate 4096 0
 
--- The set_up of n readers, and the calls. "a refused set_up is the whole print"
+-- The set-up of n readers, and the calls. "a refused set-up is the whole print"
 unfoldable pub register_print : ℕ → ℕ → List ℕ → List ℕ
 register_print n start bytes =
     let o = set_up_of ticket_rules n start 0 lent_cells lent_rows in

@@ -31,7 +31,7 @@ ending n start rows bad = pick (eqb bad 0) (log_print n start rows) (bad_line ba
 abbrev pub most_calls : ℕ
 most_calls = 16384
 
--- the set_up, and the calls in the words
+-- the set-up, and the calls in the words
 unfoldable pub run_print : ℕ → ℕ → List ℕ → ℕ → List ℕ
 run_print n start words bad =
     let o = set_up_of ticket_rules n start 0 lent_cells lent_rows in

@@ -8,6 +8,7 @@ pub mod Frames
 pub mod Attempts
 pub mod Third
 pub mod Results
+pub mod Stores
 pub mod Reads
 pub mod Taken
 pub mod Runs

@@ -134,7 +134,7 @@ module _ (s : State) (t l : List ℕ) (k : CellsKept s.head.n t) where
 
   writer_keeps : InRange ticket_rules s (length t) (length l) → s.writer.active ≡ true → Keeps (step_writer ticket_rules s t l)
   unfolding step_writer
-  writer_keeps z a = write_keeps s.head.n t z.head_good.cells_are k s.writer z.head_good.n_low ((writer_in s.head.n s.writer z.writer_ok_lem).moved_low a)
+  writer_keeps z a = write_keeps s.head.n t z.head_good.cells_are k s.writer z.head_good.n_low ((writer_in s.head.n s.writer z.writer_passes).moved_low a)
 
   reader_keeps : InRange ticket_rules s (length t) (length l) → (p : ℕ) → 1 ≤ p → p ≤ s.head.n → Keeps (step_reader ticket_rules s t l p)
   unfolding step_reader
@@ -187,7 +187,7 @@ fresh_keeps n v x low = record {
         (front i j w ∙ subst (λ (i : ℕ). view n (fresh_table n v) i j ≡ start_cell v) (sym e) (fresh_writer_lem n j v low h w.dest))
     by i j w h (inr g) = ap (λ (c : Cell). c.announced) (front i j w ∙ fresh_reader_lem n i j v (omega arith) w)
 
--- From every accepted set_up, behind every list of calls.
+-- From every accepted set-up, behind every list of calls.
 pub cells_kept : (n v : ℕ) (t l : List ℕ) (cs : List Call) → v < 2 ^ 32 → (set_up_of ticket_rules n v 0 t l).answer ≡ Accepted
     → CellsKept n (ran_from ticket_rules n v 0 t l cs).table
 unfolding run_of kept

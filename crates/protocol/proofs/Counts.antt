@@ -51,7 +51,7 @@ module _ (X L : List ℕ) (s : State) (t l : List ℕ) (b : Model) (g : Good tic
     K = subst (WriterRel n s.writer (b.stamp 0)) e R.writer_is.op
 
     low : m < 2 * n
-    low = omega (arith, (writer_in n s.writer g.ok.writer_ok_lem).moved_low K.active_is, K.moved_is)
+    low = omega (arith, (writer_in n s.writer g.ok.writer_passes).moved_low K.active_is, K.moved_is)
 
     step_is : told book n s.head.rows b (step 0) ≡ moves_write book n b (open_with v m cells)
     step_is = write_told book n s.head.rows b _ (sym (R.retired_are 0 (omega arith))) e

@@ -62,15 +62,15 @@ module _ (n : ℕ) (w : Writer) (t : List ℕ) (k : WriterInRange n w) (a : w.ac
       let c = view n t (w.moved + 1) 0 in
       lt_ind (λ (q : WriteStep). WriterInRange n q.writer) w.moved n _ _
       (λ h. record {
-        stamp_ok_lem = k.stamp_ok_lem;
+        stamp_passes = k.stamp_passes;
         moved_low = λ _. omega arith;
         few = λ _ _. omega (arith, ones_three w.excluded w.stamp.cur w.stamp.prev c.stamp.prev c.announced.cur c.announced.prev, k.few a (omega arith));
         ticket_low = λ _ g. absurd (omega arith);
       })
       (λ h. lt_ind (λ x. WriterInRange n x) (w.moved + 1) (2 * n) _ _
-      (λ e. record { stamp_ok_lem = k.stamp_ok_lem; moved_low = λ _. e; few = λ _ g. absurd (omega arith); ticket_low = λ _ _. ticket_low n w k a nh h })
+      (λ e. record { stamp_passes = k.stamp_passes; moved_low = λ _. e; few = λ _ g. absurd (omega arith); ticket_low = λ _ _. ticket_low n w k a nh h })
       (λ e. record {
-        stamp_ok_lem = record { cur_low = ticket_low n w k a nh h; prev_low = k.stamp_ok_lem.cur_low };
+        stamp_passes = record { cur_low = ticket_low n w k a nh h; prev_low = k.stamp_passes.cur_low };
         moved_low = λ g. never (sym g);
         few = λ g. never (sym g);
         ticket_low = λ g. never (sym g);
@@ -96,7 +96,7 @@ module _ (n p : ℕ) (r : Reader) (t : List ℕ) (k : ReaderInRange n r) (a : r.
     f2 g = omega (arith, (in_2 g).0, (in_2 g).1)
 
     third_low : (c : ℕ) → l ≡ n + 2 → ReaderInRange n (looks_third (moved_on r) c)
-    third_low c g = record { stamp_ok_lem = k.stamp_ok_lem; in_first = λ _ x. f1 (no_or r.second _ x); in_second = λ _ x. at r.second refl }
+    third_low c g = record { stamp_passes = k.stamp_passes; in_first = λ _ x. f1 (no_or r.second _ x); in_second = λ _ x. at r.second refl }
       where
         no_or : (b c : Bool) → (b || c) ≡ false → b ≡ false
         no_or true c x = x
@@ -109,7 +109,7 @@ module _ (n p : ℕ) (r : Reader) (t : List ℕ) (k : ReaderInRange n r) (a : r.
     -- the steps that leave the attempt as it is
     on : (q : Reader) → q.stamp ≡ r.stamp → q.second ≡ r.second → q.moved ≡ r.moved + 1 → ReaderInRange n q
     on q es e2 em = record {
-      stamp_ok_lem = rw es k.stamp_ok_lem;
+      stamp_passes = rw es k.stamp_passes;
       in_first = λ _ x. omega (arith, f1 (sym e2 ∙ x));
       in_second = λ _ x. omega (arith, f2 (sym e2 ∙ x));
     }
@@ -127,11 +127,11 @@ module _ (n p : ℕ) (r : Reader) (t : List ℕ) (k : ReaderInRange n r) (a : r.
   put_low l e h =
       lt_ind Q (l - (n + 3) + 1) n _ _
       (λ g. record {
-        stamp_ok_lem = k.stamp_ok_lem;
+        stamp_passes = k.stamp_passes;
         in_first = λ _ x. omega (arith, g, ap (λ (b : Bool). r.moved - pick b (n + 3) 0) x);
         in_second = λ _ x. omega (arith, (k.in_second a x).0, g, ap (λ (b : Bool). r.moved - pick b (n + 3) 0) x);
       })
-      (λ _. record { stamp_ok_lem = stamp_low r.result; in_first = λ x. never (sym x); in_second = λ x. never (sym x) })
+      (λ _. record { stamp_passes = stamp_low r.result; in_first = λ x. never (sym x); in_second = λ x. never (sym x) })
 
   turn_r : ReaderInRange n (read_step n p r t).reader
   unfolding read_step
@@ -140,18 +140,18 @@ module _ (n p : ℕ) (r : Reader) (t : List ℕ) (k : ReaderInRange n r) (a : r.
 -- Begins.
 opened_w : (n v : ℕ) (w : Writer) → 1 ≤ n → WriterInRange n w → WriterInRange n (writer_begins w v)
 opened_w n v w nl k = record {
-  stamp_ok_lem = k.stamp_ok_lem;
+  stamp_passes = k.stamp_passes;
   moved_low = λ _. omega arith;
   few = λ _ _. omega (arith, ones_own w.stamp.cur w.stamp.prev);
   ticket_low = λ _ q. absurd (omega arith);
 }
 
 opened_r : (n : ℕ) (r : Reader) → ReaderInRange n r → ReaderInRange n (reader_begins r)
-opened_r n r k = record { stamp_ok_lem = k.stamp_ok_lem; in_first = λ _ _. omega arith; in_second = λ _ e. never (sym e) }
+opened_r n r k = record { stamp_passes = k.stamp_passes; in_first = λ _ _. omega arith; in_second = λ _ e. never (sym e) }
 
 -- A reader that is retired has no open read to be asked about.
 retired_r : (n : ℕ) (r : Reader) → ReaderInRange n r → ReaderInRange n (as_counted (retires r))
-retired_r n r k = record { stamp_ok_lem = k.stamp_ok_lem; in_first = λ e. never (sym e); in_second = λ e. never (sym e) }
+retired_r n r k = record { stamp_passes = k.stamp_passes; in_first = λ e. never (sym e); in_second = λ e. never (sym e) }
 
 -- A sub-step retires none.
 module _ (n p : ℕ) (r : Reader) (t : List ℕ) where
@@ -197,12 +197,12 @@ lawful = record {
   retired_stays = retired_stays;
   fresh_writer_lem = λ n fresh. in_writer n _
       (record {
-        stamp_ok_lem = omega arith;
+        stamp_passes = omega arith;
         moved_low = λ e. never (sym e);
         few = λ e. never (sym e);
         ticket_low = λ e. never (sym e);
       });
-  fresh_reader_lem = λ n. in_reader n _ (record { stamp_ok_lem = omega arith; in_first = λ e. never (sym e); in_second = λ e. never (sym e) });
+  fresh_reader_lem = λ n. in_reader n _ (record { stamp_passes = omega arith; in_first = λ e. never (sym e); in_second = λ e. never (sym e) });
   write_cell = λ n w t nl e a. word_cell (index n) (Pair n) _ (index_low n) 0 _ _ (wired.write_word n w nl e a) t;
   read_cell = λ n p r t p1 pn e a. word_cell (index n) (Pair n) _ (index_low n) p _ _ (wired.read_word n p r p1 pn e a) t;
   fresh_length = λ n v fresh nl. rw (fresh_is n v) (fresh_length n v);

@@ -1,8 +1,10 @@
+pub mod Shown
 pub mod Result
 pub mod Table
 pub mod Tickets
 pub mod Excluded
 pub mod NewTicket
+pub mod Masks
 pub mod Walk
 pub mod Range
 pub mod Effects

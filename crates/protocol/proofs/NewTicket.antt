@@ -1,5 +1,5 @@
 -- The book's new ticket is the one that the papers' sentence names; it is unbarred and, behind n cells, at most 3n+2.
-use Prim.Native.Nat.{ℕ, zero, suc, ◌+◌, ◌-◌, ◌*◌, ◌≤◌, ◌<◌}
+use Prim.Native.Nat.{ℕ, zero, suc, ◌+◌, ◌*◌, ◌≤◌, ◌<◌}
 use mathlib.Core.Path.{◌≡◌, refl, sym, ap, ◌∙◌}
 use mathlib.Core.Logic.{◌≢◌, inl, inr}
 use mathlib.Core.Bool.{Bool, true, false, ◌||◌}
@@ -35,6 +35,7 @@ mem→in t (x ∷ b) (Memᴰ.tail m) = rw (mem→in t b m) (or_true (eqb t x))
     or_true : (c : Bool) → (c || true) ≡ true
     or_true true = refl
     or_true false = refl
+mem→in t [] x' = elim x' [ ]
 
 -- b without one occurrence of k
 drop_one : (k : ℕ) (b : List ℕ) → Memᴰ k b
@@ -50,6 +51,7 @@ drop_one k (x ∷ b) (Memᴰ.tail m) =
         | inr q ↦ Memᴰ.tail (r.2 t ne q)
       ],
     )
+drop_one k [] x' = elim x' [ ]
 
 -- A list that holds all numbers below k has k places.
 pigeon : (k : ℕ) (b : List ℕ) → ((t : ℕ) → t < k → Memᴰ t b) → k ≤ length b
@@ -169,6 +171,7 @@ unfolding without_none
 kept_ticket t (x ∷ b) ne (Memᴰ.head e) = rw (ne_eqb x 63 (λ z. ne (e ∙ z))) (Memᴰ.head e)
 kept_ticket t (x ∷ b) ne (Memᴰ.tail m) =
     pick_ind (λ l. Memᴰ t l) (eqb x 63) _ _ (λ _. kept_ticket t b ne m) (λ _. Memᴰ.tail (kept_ticket t b ne m))
+kept_ticket t [] ne x'' = elim x'' [ ]
 
 pub was_ticket : (t : ℕ) (b : List ℕ) → Memᴰ t (without_none b) → (t ≢ 63) × Memᴰ t b
 unfolding without_none
@@ -182,6 +185,7 @@ was_ticket t (x ∷ b) m = at (eqb x 63) refl m (was_ticket t b)
           | inl g ↦ (λ z. eqb-false x 63 e (sym g ∙ z), Memᴰ.head g)
           | inr q ↦ let r = later q in (r.0, Memᴰ.tail r.1)
         ]
+was_ticket t [] m = elim m [ ]
 
 pub in_without : (t : ℕ) (b : List ℕ) → t ≢ 63 → is_in t (without_none b) ≡ is_in t b
 unfolding without_none is_in

@@ -31,7 +31,7 @@ module _ (n : ℕ) (w : Writer) where
       let g : w.active ≡ true → (ltb w.moved (2 * n) && tickets_ok n w) ≡ true = λ a. sym (pick_yes w.active (ltb w.moved (2 * n) && tickets_ok n w) true a) ∙ o in
       let t : w.active ≡ true → tickets_ok n w ≡ true = λ a. right (ltb w.moved (2 * n)) _ (g a) in
       record {
-        stamp_ok_lem = stamp_in_lem w.stamp (left (stamp_ok w.stamp) _ e);
+        stamp_passes = stamp_in_lem w.stamp (left (stamp_ok w.stamp) _ e);
         moved_low = λ a. ltb-true _ _ (left (ltb w.moved (2 * n)) _ (g a));
         few = λ a h. leb-true _ _ (sym (pick_yes (leb w.moved n) (leb (ones (excluded_by w)) (2 + 3 * w.moved)) (ltb w.ticket 64) (le-leb _ _ h)) ∙ t a);
         ticket_low = λ a h. ltb-true _ _ (sym (pick_no (leb w.moved n) (leb (ones (excluded_by w)) (2 + 3 * w.moved)) (ltb w.ticket 64) (lt-leb _ _ h)) ∙ t a);
@@ -40,7 +40,7 @@ module _ (n : ℕ) (w : Writer) where
   pub in_writer : WriterInRange n w → writer_ok n w ≡ true
   unfolding writer_ok
   in_writer k =
-      both (stamp_ok w.stamp) _ (in_stamp w.stamp k.stamp_ok_lem)
+      both (stamp_ok w.stamp) _ (in_stamp w.stamp k.stamp_passes)
       (pick_ind (λ b. b ≡ true) w.active _ _
       (λ a. both (ltb w.moved (2 * n)) _ (lt-ltb _ _ (k.moved_low a))
       (pick_ind (λ b. b ≡ true) (leb w.moved n) _ _
@@ -60,7 +60,7 @@ module _ (n : ℕ) (r : Reader) where
   reader_in e =
       let g : r.active ≡ true → span ≡ true = λ a. sym (pick_yes r.active span true a) ∙ right (stamp_ok r.stamp) _ e in
       record {
-        stamp_ok_lem = stamp_in_lem r.stamp (left (stamp_ok r.stamp) _ e);
+        stamp_passes = stamp_in_lem r.stamp (left (stamp_ok r.stamp) _ e);
         in_first = λ a h. leb-true _ _ (sym (pick_no r.second late (leb r.moved (2 * n + 2)) h) ∙ g a);
         in_second = λ a h.
             let q : late ≡ true = sym (pick_yes r.second late (leb r.moved (2 * n + 2)) h) ∙ g a in
@@ -70,7 +70,7 @@ module _ (n : ℕ) (r : Reader) where
   pub in_reader : ReaderInRange n r → reader_ok n r ≡ true
   unfolding reader_ok
   in_reader k =
-      both (stamp_ok r.stamp) _ (in_stamp r.stamp k.stamp_ok_lem)
+      both (stamp_ok r.stamp) _ (in_stamp r.stamp k.stamp_passes)
       (pick_ind (λ b. b ≡ true) r.active _ _
       (λ a. pick_ind (λ b. b ≡ true) r.second _ _
       (λ h. both (leb (n + 3) r.moved) _ (le-leb _ _ (k.in_second a h).0) (le-leb _ _ (k.in_second a h).1))

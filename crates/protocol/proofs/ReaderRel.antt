@@ -14,7 +14,7 @@ use Rattle.common.specs.declared.Reader.{Reader}
 use Rattle.common.specs.State.{retires, value_in}
 use Rattle.common.specs.Book.{idle, open_with}
 use Rattle.protocol.specs.Read.{stamp_in}
-use Rattle.protocol.specs.Reference.{Operation, nth, alike, first_with, agree, Result, result_of, failed}
+use Rattle.protocol.specs.Reference.{Operation, nth, alike, first_with, Result, result_of, failed}
 use Rattle.protocol.proofs.Seen.{failed_early}
 
 -- the value and stamp in a word

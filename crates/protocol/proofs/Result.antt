@@ -2,20 +2,17 @@
 use Prim.Native.Nat.{ℕ, zero, suc, ◌≤◌}
 use native.Mathlib.Omega.{arith}
 use native.Mathlib.Decide.{ℕ_discrete}
-use mathlib.Core.Path.{◌≡◌, refl}
+use mathlib.Core.Path.{◌≡◌}
 use mathlib.Core.Logic.{◌≢◌}
 use mathlib.Core.Bool.{true, false}
 use mathlib.Core.List.{List}
 use borrow.Author.Tests.{eq-eqb}
-use Rattle.words.specs.declared.stamp.Stamp.{Stamp}
 use Rattle.words.specs.declared.cell.Cell.{Cell}
-use Rattle.words.specs.Choice.{pick}
-use Rattle.words.specs.Stamp.{none, is_none}
-use Rattle.words.proofs.Laws.Choice.{eq_ind, pick_yes, pick_no}
-use Rattle.words.proofs.Laws.Stamp.{equal_same, some_stamp}
+use Rattle.words.specs.Stamp.{none}
+use Rattle.words.proofs.Laws.Choice.{eq_ind}
 use Rattle.common.specs.declared.Reader.{Reader}
 use Rattle.common.specs.State.{value_in}
-use Rattle.protocol.specs.Table.{plain}
+use Rattle.protocol.proofs.Shown.{shows}
 use Rattle.protocol.specs.Read.{stamp_in, looks_at_other, showing}
 use Rattle.protocol.specs.Reference.{nth, first_with, Result, shown}
 use Rattle.protocol.specs.Result.{FirstWhose, found, not_found, Shows}
@@ -40,14 +37,6 @@ first_stays r w e = (rw e, rw e)
 pub first_taken : (r : Reader) (w : ℕ) → r.found ≡ false → (stamp_in w).prev ≡ (stamp_in r.look).cur
     → ((looks_at_other r w).found ≡ true) × ((looks_at_other r w).result ≡ w)
 first_taken r w e q = let t = eq-eqb (stamp_in w).prev (stamp_in r.look).cur q in (rw (e, t), rw (e, t))
-
-shows : (v : ℕ) (s : Stamp) → Shows v s (plain (pick (is_none s) 0 v) s)
-shows v s = record {
-  some = λ ne. pick_no (is_none s) 0 v (some_stamp s ne);
-  nothing = λ e. pick_yes (is_none s) 0 v (equal_same s none e);
-  stamp_is = refl;
-  announced_is = refl;
-}
 
 pub showing_shows : (w : ℕ) → Shows (value_in w) (stamp_in w) (showing w)
 showing_shows w = shows (value_in w) (stamp_in w)

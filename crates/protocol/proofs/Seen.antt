@@ -1,6 +1,6 @@
 -- The cells that a read has read, in a list that grows at its end.
 use Prim.Native.Nat.{ℕ, zero, suc, ◌+◌, ◌≤◌, ◌<◌}
-use mathlib.Core.Path.{◌≡◌, refl, sym, ◌∙◌}
+use mathlib.Core.Path.{◌≡◌, refl, sym, ap, subst, ◌∙◌}
 use mathlib.Core.List.{List, [], ◌∷◌, ◌++◌}
 use mathlib.Core.Bool.{Bool, false, not}
 use native.Mathlib.Omega.{arith}
@@ -29,7 +29,10 @@ pub first_last : (cells : List Cell) (t : ℕ) (d : Cell) (k r : ℕ)
     → first_with cells t d k (suc r) ≡ first_with cells t (pick (eqb (nth cells (k + r)).stamp.prev t) (nth cells (k + r)) d) k r
 unfolding first_with
 first_last cells t d k zero = let e : k + 0 ≡ k = omega arith in rw e
-first_last cells t d k (suc r) = let e : k + suc r ≡ suc k + r = omega arith in rw (e, ← first_last cells t d (suc k) r)
+first_last cells t d k (suc r) =
+    let e : suc k + r ≡ k + suc r = omega arith in
+    subst (λ (j : ℕ). first_with cells t d k (suc (suc r)) ≡ first_with cells t (pick (eqb (nth cells j).stamp.prev t) (nth cells j) d) k (suc r))
+    e (ap (λ (x : Cell). pick (eqb (nth cells k).stamp.prev t) (nth cells k) x) (first_last cells t d (suc k) r))
 
 pub first_none : (cells : List Cell) (t : ℕ) (d : Cell) (k r : ℕ) → r ≡ 0 → first_with cells t d k r ≡ d
 unfolding first_with

@@ -1,6 +1,6 @@
 -- The new ticket by a set of barred ones is the one that the papers' sentence names, and so the book's.
-use Prim.Native.Nat.{ℕ, ◌+◌, ◌*◌, ◌^◌, ◌≤◌, ◌<◌, max}
-use mathlib.Core.Path.{◌≡◌, refl, sym, subst, ◌∙◌}
+use Prim.Native.Nat.{ℕ, ◌+◌, ◌*◌, ◌≤◌, ◌<◌, max}
+use mathlib.Core.Path.{◌≡◌, refl, sym, ◌∙◌}
 use mathlib.Core.List.{List, [], ◌∷◌, ◌++◌}
 use mathlib.Core.Bool.{Bool, true, false, ◌||◌}
 use native.Mathlib.Omega.{arith}
@@ -9,19 +9,17 @@ use native.Mathlib.Nat.{zero-div}
 use lib.ListN.{length}
 use lib.Bits.{bit_or}
 use lib.Count.{ones}
-use lib.Dec.{ltb, eqb}
-use borrow.Author.Tests.{ltb-false, eq-eqb, ne_eqb}
+use lib.Dec.{eqb}
 use Rattle.words.specs.declared.cell.Cell.{Cell}
-use Rattle.words.specs.Choice.{pick}
 use Rattle.words.specs.Counting.{one}
-use Rattle.words.proofs.Laws.Choice.{lt_ind}
 use Rattle.words.specs.declared.stamp.Stamp.{Stamp}
 use Rattle.protocol.specs.Tickets.{bit, with_ticket, smallest_out, with_cell, through, walk_on}
 use Rattle.protocol.specs.NewTicket.{Above, Walks}
 use Rattle.protocol.specs.Reference.{is_in, named_tickets, excluded_tickets, ticket_after}
-use Rattle.protocol.proofs.Tickets.{bit_or_lem, bit_same, bit_other, below_in, first_out, first_le_ones, through_in, through_out}
+use Rattle.protocol.proofs.Tickets.{bit_or_lem, below_in, first_out, first_le_ones, through_in, through_out}
 use Rattle.protocol.proofs.NewTicket.{one_walk, seek, walks_low, walks, after_low, in_without, none_without}
 use Rattle.protocol.proofs.Excluded.{mask, with_or}
+use Rattle.protocol.proofs.Masks.{mask_bit, none_mask}
 
 -- The set of the cells read.
 unfoldable pub bars : ℕ → List Cell → ℕ
@@ -32,17 +30,6 @@ pub bars_more : (b : ℕ) (cs : List Cell) (c : Cell) → bars b (cs ++ c ∷ []
 unfolding bars
 bars_more b [] c = refl
 bars_more b (x ∷ cs) c = bars_more (with_cell b x) cs c
-
-mask_bit : (u t : ℕ) → t < 63 → bit (mask u) t ≡ one (eqb t u)
-unfolding mask
-mask_bit u t h = at (ltb u 63) refl
-  where
-    at : (b : Bool) → ltb u 63 ≡ b → bit (pick b (2 ^ u) 0) t ≡ one (eqb t u)
-    at true e = elim (ℕ_discrete t u) [
-      | yes q ↦ rw (eq-eqb t u q) (subst (λ (x : ℕ). bit (2 ^ x) t ≡ 1) q (bit_same t))
-      | no q ↦ rw (ne_eqb t u q) (bit_other u t (λ z. q (sym z)))
-    ]
-    at false e = rw (ne_eqb t u (λ z. omega (arith, ltb-false u 63 e)), zero-div)
 
 with_bit : (s u t : ℕ) → t < 63 → bit (with_ticket s u) t ≡ max (bit s t) (one (eqb t u))
 with_bit s u t h = rw (with_or s u, bit_or_lem s (mask u) t, mask_bit u t h)
@@ -71,10 +58,6 @@ named_in st t h b (c ∷ cs) =
     ) (simp max_assoc)
 
 -- The set is the list, ticket by ticket: none, 63, is in neither.
-none_mask : (u : ℕ) → bit (mask u) 63 ≡ 0
-unfolding mask
-none_mask u = lt_ind (λ x. bit x 63 ≡ 0) u 63 (2 ^ u) 0 (λ h. bit_other u 63 (omega arith)) (λ _. refl)
-
 none_with : (s u : ℕ) → bit (with_ticket s u) 63 ≡ bit s 63
 none_with s u = rw (with_or s u, bit_or_lem s (mask u) 63, none_mask u) (omega arith)
 
@@ -147,7 +130,7 @@ module _ (n : ℕ) (st : Stamp) (cs : List Cell) (nh : n ≤ 16) (len : length c
   digit : (t : ℕ) → t ≤ 3 * n + 2 → bit set t ≡ one (is_in t (excluded_tickets st cs))
   digit t h = bars_in st t (omega arith) cs
 
-  pub new_ticket_lem : ones set ≤ 3 * n + 2 → walk_on (3 * n + 2) st.cur set ≡ ticket_after n st cs
-  new_ticket_lem few =
+  pub new_ticket : ones set ≤ 3 * n + 2 → walk_on (3 * n + 2) st.cur set ≡ ticket_after n st cs
+  new_ticket few =
       one_walk n st.cur (λ k h e. one_false _ (sym (digit k h) ∙ e)) (λ k h e. digit k h ∙ rw e) (walk_low n st.cur set nh few)
       (after_low n st cs (omega arith)) (walks_on n st.cur set nh few) (walks (excluded_tickets st cs) n st.cur)

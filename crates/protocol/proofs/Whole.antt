@@ -1,4 +1,4 @@
--- Demand 3: from every accepted set_up, for every list of calls.
+-- Demand 3: from every accepted set-up, for every list of calls.
 use Prim.Native.Nat.{ℕ, ◌+◌, ◌*◌, ◌^◌, ◌<◌}
 use mathlib.Core.Path.{◌≡◌, sym, subst}
 use mathlib.Core.List.{List}
@@ -55,6 +55,6 @@ module _ (n v : ℕ) (t l : List ℕ) (cs : List Call) (e : (set_up_of ticket_ru
         (write_moves _ _ r.state r.table r.log b z.runs.good z.runs.rel rows_kept u m cells q);
     read_moves = λ p p1 pn free u m cells q. as_set_up ticket_rules book WIs RIs lawful simulates n v 0 (omega arith) t l cs e p m (λ k. pick (failed k m cells) (3 * k + 6) (2 * k + 3))
         (read_moves _ _ r.state r.table r.log b z.runs.good z.runs.rel rows_kept p p1 (omega (arith, n_kept)) free u m cells q);
-    new_ticket_lem = next_ticket;
+    new_ticket = next_ticket;
     retired_cells = cells_stand ticket_rules book WIs RIs lawful simulates n v 0 (omega arith) t l cs e index Pair wired;
   }

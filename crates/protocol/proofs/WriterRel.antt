@@ -25,7 +25,7 @@ use Rattle.protocol.specs.Rules.{ticket_rules}
 use Rattle.protocol.proofs.Table.{places}
 use Rattle.protocol.proofs.Laws.{few}
 use Rattle.protocol.proofs.ReaderRel.{RIs}
-use Rattle.protocol.proofs.Walk.{bars, bars_more, new_ticket_lem}
+use Rattle.protocol.proofs.Walk.{bars, bars_more, new_ticket}
 
 pub record WRel (n : ℕ) (w : Writer) (st : Stamp) (v m : ℕ) (cells : List Cell) : Type 0 where
   pub active_is : w.active ≡ true
@@ -57,7 +57,7 @@ module _ (n : ℕ) (nl : 1 ≤ n) (nh : n ≤ 16) (T X : List ℕ) (size : lengt
   taken e =
       let h = few n w ok R.active_is nh e in
       let q : excluded_by w ≡ with_ticket (with_ticket (bars 0 cells) st.cur) st.prev = rw (R.excluded_is (omega arith), stamp_is) in
-      rw (q, stamp_is) (new_ticket_lem n st cells nh (R.length_is (omega arith) ∙ e) (omega (arith, ap ones q)))
+      rw (q, stamp_is) (new_ticket n st cells nh (R.length_is (omega arith) ∙ e) (omega (arith, ap ones q)))
 
   ticket : n ≤ m → ticket_of n w ≡ ticket_after n st cells
   unfolding ticket_of

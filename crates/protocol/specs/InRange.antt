@@ -12,7 +12,7 @@ pub record StampInRange (s : Stamp) : Type 0 where
   pub prev_low : s.prev < 64
 
 pub record WriterInRange (n : ℕ) (w : Writer) : Type 0 where
-  pub stamp_ok_lem : StampInRange w.stamp
+  pub stamp_passes : StampInRange w.stamp
   -- "words moved at most 2n−1 in an open write"
   pub moved_low : w.active ≡ true → w.moved < 2 * n
   -- "until an open write takes its new ticket, its barred tickets, own cur and prev counted in, at most 2 plus 3 for each cell read"
@@ -20,7 +20,7 @@ pub record WriterInRange (n : ℕ) (w : Writer) : Type 0 where
   pub ticket_low : w.active ≡ true → n < w.moved → w.ticket < 64
 
 pub record ReaderInRange (n : ℕ) (r : Reader) : Type 0 where
-  pub stamp_ok_lem : StampInRange r.stamp
+  pub stamp_passes : StampInRange r.stamp
   -- "2n+2 in a read's first attempt, n+3 to 3n+5 from its second on"
   pub in_first : r.active ≡ true → r.second ≡ false → r.moved ≤ 2 * n + 2
   pub in_second : r.active ≡ true → r.second ≡ true → (n + 3 ≤ r.moved) × (r.moved ≤ 3 * n + 5)

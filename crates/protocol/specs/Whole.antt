@@ -36,7 +36,7 @@ module _ (n v : ℕ) (t l : List ℕ) (cs : List Call) where
     pub read_moves : (p : ℕ) → 1 ≤ p → p ≤ n → model.retired p ≡ false → (u m : ℕ) (cells : List Cell) → model.op p ≡ open_with u m cells
         → Moves (next ticket_rules n v 0 t l cs (step p)).answer (still book n v 0 l cs p) m (pick (failed n m cells) (3 * n + 6) (2 * n + 3))
     -- "Every new ticket is an unbarred one of the 3n+3 names."
-    pub new_ticket_lem : (u : ℕ) (cells : List Cell) → model.op 0 ≡ open_with u n cells
+    pub new_ticket : (u : ℕ) (cells : List Cell) → model.op 0 ≡ open_with u n cells
         → NewTicket n (model.stamp 0).cur (next ticket_rules n v 0 t l cs (step 0)).table (excluded_tickets (model.stamp 0) cells)
     -- (02) "Its cells remain just as they stand": whatever call follows
     pub retired_cells : (p : ℕ) → p ≤ n → model.retired p ≡ true → (c : Call)

@@ -48,7 +48,7 @@ module _ (R : Rules) (s : State) (cells log least p : ℕ) where
       by : (x y z : Bool) → state_ok R s cells log ≡ x → is_processor s.head least p ≡ y → is_retired s p ≡ z
           → is_yes (pick x (pick y (pick z (No Retired) Yes) (No Processor)) (No Range)) ≡ true → Passed R s cells log least p
       by true true false ex ey ez q = record {
-        in_range_lem = test_range R s cells log ex;
+        is_in_range = test_range R s cells log ex;
         p_low = leb-true least p (left (leb least p) _ ey);
         p_high = processor_high s least p ey;
         free = ez;

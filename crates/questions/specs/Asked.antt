@@ -16,7 +16,7 @@ asked_of R s cells log least p =
 
 -- what a processor from the least on is that has passed them
 pub record Passed (R : Rules) (s : State) (cells log least p : ℕ) : Type 0 where
-  pub in_range_lem : InRange R s cells log
+  pub is_in_range : InRange R s cells log
   pub p_low : least ≤ p
   pub p_high : p ≤ s.head.n
   pub free : is_retired s p ≡ false

@@ -120,7 +120,7 @@ module _ (R : Rules) (s : State) (t l : List ℕ) where
     unfolding step_reader
     read_goes a = rw (← e, a)
 
-    pub read_ends_lem : q.active ≡ false
+    pub read_ends : q.active ≡ false
         → record {
           answer = Moved ((reader_at s (p - 1)).moved + 1);
           state = with_reader s (p - 1) q (ended s.head);
@@ -129,7 +129,7 @@ module _ (R : Rules) (s : State) (t l : List ℕ) where
         }
         ≡ step_reader R s t l p
     unfolding step_reader
-    read_ends_lem a = rw (← e, a)
+    read_ends a = rw (← e, a)
 
   abbrev ok : Bool
   ok = state_ok R s (length t) (length l)

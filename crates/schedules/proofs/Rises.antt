@@ -34,11 +34,22 @@ rising (suc k) (suc a) (suc b) =
     (λ s m t n. rw (← (Memᴰ.of_map (w ∷◌) (after_writer k a (suc b)) m).2, ← (Memᴰ.of_map (r ∷◌) (after_reader k (suc a) b) n).2) Before.first)
 
 -- Dictionary order is one of different schedules, and goes one way only.
+-- each is said of lists that are shown to be equal, not of one
+unequal : {s t : List Turn} → Before s t → s ≡ t → ⊥
+unequal Before.first e = cc
+unequal (Before.later h) e = unequal h (cc)
+
 not_itself : (s : List Turn) → Before s s → ⊥
-not_itself (x ∷ s) (Before.later h) = not_itself s h
+not_itself s h = unequal h refl
+
+one_way : {s t u v : List Turn} → Before s t → Before u v → t ≡ u → s ≡ v → ⊥
+one_way Before.first Before.first e f = cc
+one_way Before.first (Before.later k) e f = cc
+one_way (Before.later h) Before.first e f = cc
+one_way (Before.later h) (Before.later k) e f = one_way h k (cc) (cc)
 
 not_both : {s t : List Turn} → Before s t → Before t s → ⊥
-not_both (Before.later h) (Before.later k) = not_both h k
+not_both h k = one_way h k refl refl
 
 pub once : (l : List (List Turn)) → Rising l → Once l
 once [] h = tt

@@ -36,18 +36,18 @@ computed : T (well_formed two_choices) × T (regular h f) × T (reads_from h g) 
 unfolding Row.pack_row Rows.kind_of Rows.within Rows.suits Rows.begins Rows.kind_at Rows.processor_at Rows.value_at WellFormed.well_formed WellFormed.head_ok WellFormed.fields WellFormed.open_at WellFormed.alternates WellFormed.row_ok WellFormed.all History.event_at History.end_at Search.first Sweep.place_at Sweep.adds Sweep.floors Sweep.floor Sweep.place Sweep.missing Chosen.chosen Chosen.last_before Chosen.reads_from Chosen.regular Chosen.uninverted
 computed = (tt, tt, tt, tt, refl)
 
-no_order_lem : (l : List ℕ) → ¬ Orders two_choices l
-no_order_lem l O = let e = (ordered_if_swept two_choices computed.0).0 (l, O) in omega (arith, computed.4)
+no_order : (l : List ℕ) → ¬ Orders two_choices l
+no_order l O = let e = (ordered_if_swept two_choices computed.0).0 (l, O) in omega (arith, computed.4)
 
 pub two_choices_lem : Differ two_choices f g
 two_choices_lem =
     let w = computed.0 in
     let L = laws two_choices w in
     record {
-      well_formed_lem = w;
+      is_well_formed = w;
       by_one = (tests_regular h L f).only_if computed.1;
       by_another = (tests_reads_from h L g).only_if computed.2;
       no_inversion = (tests_uninverted h L g).only_if computed.3;
-      not_atomic = λ A. let t = (two_definitions two_choices w).0 A in no_order_lem t.0 t.1;
-      no_order_lem = no_order_lem;
+      not_atomic = λ A. let t = (two_definitions two_choices w).0 A in no_order t.0 t.1;
+      no_order = no_order;
     }

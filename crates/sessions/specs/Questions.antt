@@ -33,7 +33,7 @@ set_ups =
 
 abbrev calls : List Session
 calls =
-    -- 4 before 5, 7 and 8: of the state of a refused set_up
+    -- 4 before 5, 7 and 8: of the state of a refused set-up
     asked tickets (no_state false) 2 3 (write 9) 104
     ∷ asked tickets (no_state false) 2 3 (read 1) 104
     ∷ asked tickets (no_state false) 2 3 (step 0) 104

@@ -55,13 +55,13 @@ pub data Session : Type 0 where
   -- the new ticket of a write in a register of n readers, in a state that is handed in: the writer's own stamp, and the tickets that the
   -- cells it has read bar
   taken : (n : ℕ) (own : Stamp) (barred : List ℕ) (ticket : ℕ) → Session
-  -- a set_up of n readers with start reading v on a lent table and log, refused by its number
+  -- a set-up of n readers with start reading v on a lent table and log, refused by its number
   denied : (g : Register) (n v : ℕ) (table log : List ℕ) (number : ℕ) → Session
   -- an accepted one and the calls behind it; their answers as numbers, and the whole table and log after the last
   run : (g : Register) (n v : ℕ) (table log : List ℕ) (calls : List Call) (answers cells rows : List ℕ) → Session
-  -- calls behind an accepted set_up of n readers, on a table that is handed in; their answers, and the table and the used rows after the last
+  -- calls behind an accepted set-up of n readers, on a table that is handed in; their answers, and the table and the used rows after the last
   found : (n : ℕ) (table : List ℕ) (calls : List Call) (answers cells rows : List ℕ) → Session
-  -- the number of open operations behind an accepted set_up, with a log of so many rows, and behind each of the calls
+  -- the number of open operations behind an accepted set-up, with a log of so many rows, and behind each of the calls
   opens : (g : Register) (n rows : ℕ) (calls : List Call) (numbers : List ℕ) → Session
   -- the state behind the calls, handed on with this number of open operations: the answer to one call more
   handed : (g : Register) (n rows : ℕ) (calls : List Call) (number : ℕ) (last : Call) (answer : ℕ) → Session

@@ -8,9 +8,9 @@ use Rattle.history.specs.Regular.{Regular, Inverted, IsAtomic}
 
 -- regular by f and without inversion by g, but not atomic, and without an order
 pub record Differ (log : List ℕ) (f g : ℕ → ℕ) : Type 0 where
-  pub well_formed_lem : T (well_formed log)
+  pub is_well_formed : T (well_formed log)
   pub by_one : Regular (history_of log) f
   pub by_another : ReadsFrom (history_of log) g
   pub no_inversion : (r s : ℕ) → Read (history_of log) (length log) r → Read (history_of log) (length log) s → ¬ Inverted (history_of log) g r s
   pub not_atomic : ¬ IsAtomic log
-  pub no_order_lem : (l : List ℕ) → ¬ Orders log l
+  pub no_order : (l : List ℕ) → ¬ Orders log l

@@ -1,10 +1,10 @@
 -- What the sheet keeps while it works: as the judge of rows, no array of more than 64 elements, read off its code.
 use Rattle.std.specs.Prelude.{List, ◌∷◌}
-use mir.Syntax.{Name, Fn}
+use mir.Syntax.{Symbol, Fn}
 use Rattle.judge.specs.Frame.{of_rows, KeepsLittleAmong}
 
 -- `sheet`, and what it calls; the rest is of the judge of rows
-abbrev pub of_sheet : List Name
+abbrev pub of_sheet : List Symbol
 of_sheet =
     "sheets::rows::sheet"
     ∷ "sheets::rows::no_figures"

@@ -6,7 +6,7 @@ use native.Mathlib.Decide.{dec_lt}
 use mathlib.Core.Path.{◌≡◌, refl, sym, ap, ◌∙◌}
 use mathlib.Core.Logic.{◌≢◌}
 use mathlib.Core.Bool.{Bool, true, false}
-use mathlib.Core.List.{List, [], map}
+use mathlib.Core.List.{List, map}
 use lib.Dec.{T}
 use lib.ListN.{length, get_or, drop, length-append, length-drop, length-map, get_or-append}
 use lib.Seq.{ext_get_or, get_or-drop}
@@ -16,10 +16,12 @@ use Rattle.words.proofs.Laws.Same.{→same}
 use Rattle.history.specs.Rows.{processor_of}
 use Rattle.storing.specs.Gather.{strip, gather, count_of}
 use Rattle.storing.specs.Strips.{sorted, matched}
-use Rattle.storing.proofs.Gathered.{strip_key, gather_suc, gather_le, gather_all, gather_full, gather_at}
+use Rattle.storing.proofs.Gathered.{strip_key, gather_suc}
+use Rattle.storing.proofs.Onward.{gather_le, gather_all, gather_full, gather_at}
 use Rattle.store.specs.Places.{start_of, AllOf}
 use Rattle.store.proofs.Starts.{start_next, start_le, start_less}
-use Rattle.storing.proofs.Back.{matched→, processor_at_lem}
+use Rattle.storing.proofs.Back.{processor_at_lem}
+use Rattle.storing.proofs.Matching.{matched→}
 
 -- numbers that do not match
 pub wrong_number : (bytes rows : List ℕ) → (length rows ≡ length bytes + 1 → ⊥) → false ≡ matched bytes rows

@@ -12,7 +12,8 @@ use Rattle.judging.specs.Answer.{laid}
 use Rattle.storing.specs.Gather.{strip, gather, count_of}
 use Rattle.storing.specs.Strips.{log_of, matched}
 use Rattle.storing.proofs.Counts.{count_hit, count_miss, count_less}
-use Rattle.storing.proofs.Back.{Matched, matched→, log_length, log_first, log_row, back_place}
+use Rattle.storing.proofs.Back.{log_length, log_first, log_row, back_place}
+use Rattle.storing.proofs.Matching.{Matched, matched→}
 use Rattle.store.specs.Places.{start_of, next_of}
 use Rattle.store.proofs.Starts.{start_next, start_le}
 use Rattle.store.proofs.Walks.{copy_step, copy_start, over_all}

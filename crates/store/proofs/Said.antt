@@ -11,7 +11,7 @@ use Rattle.judging.proofs.Asked.{right→}
 use Rattle.storing.specs.Strips.{log_of, matched}
 use Rattle.storing.specs.Answer.{Stored, Restored}
 use Rattle.storing.specs.Meaning.{StoreSays, RestoreSays}
-use Rattle.storing.proofs.Back.{matched→}
+use Rattle.storing.proofs.Matching.{matched→}
 use Rattle.storing.proofs.Formed.{formed_back}
 use Rattle.storing.proofs.Meaning.{store_says, restore_says}
 

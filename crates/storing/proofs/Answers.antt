@@ -12,7 +12,8 @@ use Rattle.history.specs.WellFormed.{well_formed}
 use Rattle.judging.specs.Answer.{right_length, laid}
 use Rattle.storing.specs.Strips.{strip_bytes, strip_rows, log_of, matched}
 use Rattle.storing.specs.Answer.{storing, restoring, Stored, Restored}
-use Rattle.storing.proofs.Back.{matched→, log_length}
+use Rattle.storing.proofs.Back.{log_length}
+use Rattle.storing.proofs.Matching.{matched→}
 
 and_false : (a : Bool) → (a && false) ≡ false
 and_false true = refl

@@ -1,37 +1,24 @@
 -- The log that strips give, row by row.
-use Prim.Native.Nat.{ℕ, suc, zero, ◌≤◌, ◌<◌, ◌+◌}
+use Prim.Native.Nat.{ℕ, suc, zero, ◌<◌, ◌+◌}
 use native.Mathlib.Omega.{arith}
 use native.Mathlib.Decide.{dec_lt}
 use mathlib.Core.Path.{◌≡◌, refl, sym, ap, ◌∙◌}
 use mathlib.Core.List.{List, [], ◌∷◌, map}
-use lib.Dec.{T, eqb, eqb→eq}
-use lib.ListN.{length, get_or, take, drop, length-append, length-map, get_or-append, get_or-map}
+use lib.ListN.{length, get_or, take, drop, length-append, get_or-append, get_or-map}
 use lib.Seq.{get_or_at, get_or-drop, get_or-take, take_at, drop_at, length-take-le}
-use Rattle.words.proofs.Laws.Choice.{T-left, T-right}
-use Rattle.words.proofs.Laws.Same.{same→}
 use Rattle.history.specs.Rows.{processor_of}
 use Rattle.storing.specs.Gather.{strip, gather}
-use Rattle.storing.specs.Strips.{back_at, back_to, log_of, sorted, matched}
+use Rattle.storing.specs.Strips.{back_at, back_to, log_of, sorted}
 use Rattle.storing.proofs.Counts.{count_less}
-use Rattle.storing.proofs.Gathered.{strip_in, strip_key, gather_gather, strip_count, gather_at, map_gather, gathered}
+use Rattle.storing.proofs.Matching.{Matched, strip_size, gather_size}
+use Rattle.storing.proofs.Gathered.{strip_key}
+use Rattle.storing.proofs.Onward.{gather_at, gathered}
 
 pub processor_small : (w : ℕ) → processor_of w < 256
 processor_small w = omega arith
 
 pub processor_at_lem : (l : List ℕ) (i : ℕ) → get_or (map processor_of l) i 0 ≡ processor_of (get_or l i 0)
 processor_at_lem l i = get_or-map processor_of l i 0
-
--- the strips belong to the bytes
-pub record Matched (bytes rows : List ℕ) : Type 0 where
-  pub number : length rows ≡ length bytes + 1
-  pub processors : sorted bytes ≡ map processor_of (drop 1 rows)
-
-pub matched→ : (bytes rows : List ℕ) → T (matched bytes rows) → Matched bytes rows
-unfolding matched
-matched→ bytes rows t = record {
-  number = eqb→eq _ _ (T-left (eqb (length rows) (length bytes + 1)) _ t);
-  processors = same→ _ _ (T-right (eqb (length rows) (length bytes + 1)) _ t);
-}
 
 module _ (bytes rows : List ℕ) where
   pub length_back : (k : ℕ) → length (back_to bytes rows k) ≡ k
@@ -52,19 +39,6 @@ module _ (bytes rows : List ℕ) (M : Matched bytes rows) where
   pub rest_gathered : gather processor_of 256 (drop 1 rows) ≡ drop 1 rows
   unfolding sorted
   rest_gathered = gathered processor_of 256 (drop 1 rows) bytes (sym M.processors)
-
-  pub strip_size : (p : ℕ) → p < 256 → length (strip processor_of p (drop 1 rows)) ≡ length (strip (λ b. b) p bytes)
-  unfolding sorted
-  strip_size p a =
-      strip_count processor_of p (drop 1 rows)
-      ∙ ap (λ (l : List ℕ). length (strip (λ b. b) p l)) (sym M.processors)
-      ∙ ap length (strip_in (λ b. b) p 256 bytes a)
-
-  gather_size : (p : ℕ) → p ≤ 256 → length (gather processor_of p (drop 1 rows)) ≡ length (gather (λ b. b) p bytes)
-  unfolding sorted
-  gather_size p a =
-      sym (length-map (gather processor_of p (drop 1 rows)) processor_of)
-      ∙ ap length (map_gather processor_of p (drop 1 rows) ∙ ap (gather (λ b. b) p) (sym M.processors) ∙ gather_gather (λ b. b) p 256 bytes a)
 
   first_length : length (take 1 rows) ≡ 1
   first_length = length-take-le 1 rows (omega (arith, M.number))
@@ -96,15 +70,15 @@ module _ (bytes rows : List ℕ) (M : Matched bytes rows) where
       sym (
       sym (get_or-drop 1 rows (length (gather (λ b. b) p bytes) + i) 0)
       ∙ ap (λ (l : List ℕ). get_or l (length (gather (λ b. b) p bytes) + i) 0) (sym rest_gathered)
-      ∙ ap (λ (n : ℕ). get_or (gather processor_of 256 (drop 1 rows)) (n + i) 0) (sym (gather_size p (omega arith)))
-      ∙ gather_at processor_of p 256 (drop 1 rows) i a (omega (arith, strip_size p a))
+      ∙ ap (λ (n : ℕ). get_or (gather processor_of 256 (drop 1 rows)) (n + i) 0) (sym (gather_size bytes rows M p (omega arith)))
+      ∙ gather_at processor_of p 256 (drop 1 rows) i a (omega (arith, strip_size bytes rows M p a))
       )
 
   module _ (k : ℕ) (inside : k < length bytes) (small : get_or bytes k 0 < 256) where
     pub back_processor : processor_of (back_at bytes rows k) ≡ get_or bytes k 0
     unfolding back_at
     back_processor = strip_key processor_of (get_or bytes k 0) (drop 1 rows) (length (strip (λ b. b) (get_or bytes k 0) (take k bytes)))
-        (omega (arith, strip_size (get_or bytes k 0) small, count_less bytes k inside))
+        (omega (arith, strip_size bytes rows M (get_or bytes k 0) small, count_less bytes k inside))
 
     pub back_place : back_at bytes rows k ≡ get_or rows (1 + (length (gather (λ b. b) (get_or bytes k 0) bytes) + length (strip (λ b. b) (get_or bytes k 0) (take k bytes)))) 0
     unfolding back_at

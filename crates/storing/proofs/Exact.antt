@@ -49,11 +49,11 @@ store_exact {log = log} {b = b} {r = r} (says_11 F (inr a) e f) = rw (e, f) (sto
 store_exact {log = log} {b = b} {r = r} (says_0 F A B S) =
     let e = only_strips log _ _ F.size.some S in
     store_yes log b r refl (right F.size) refl (formed F) (omega (arith, A.room)) B.room
-    (laid_is A (sym (ap length e.0) ∙ omega (arith, S.bytes_number_lem)) e.0) (laid_is B (sym (ap length e.1) ∙ S.rows_number) e.1)
+    (laid_is A (sym (ap length e.0) ∙ omega (arith, S.bytes_number)) e.0) (laid_is B (sym (ap length e.1) ∙ S.rows_number) e.1)
 
 -- the log of strips
 the_log : {log bytes rows : List ℕ} → StripsOf log bytes rows → log ≡ log_of bytes rows
-the_log {log = log} {bytes = bytes} {rows = rows} S = only_log log bytes rows (omega (arith, S.bytes_number_lem)) S
+the_log {log = log} {bytes = bytes} {rows = rows} S = only_log log bytes rows (omega (arith, S.bytes_number)) S
 
 module _ {bytes rows : List ℕ} (small : (i : ℕ) → i < length bytes → get_or bytes i 0 < 256) where
   match : Match bytes rows → matched bytes rows ≡ true

@@ -19,7 +19,8 @@ use Rattle.judging.proofs.Asked.{right→}
 use Rattle.storing.specs.Strips.{strip_bytes, strip_rows, log_of, matched}
 use Rattle.storing.specs.Answer.{storing, restoring}
 use Rattle.storing.specs.File.{file_of, count_in, bytes_in, rest_in, whole, Written, refused, written, rows_file, store_file, log_file, restore_file}
-use Rattle.storing.proofs.RoundTrip.{log_back, stored_matched}
+use Rattle.storing.proofs.RoundTrip.{log_back}
+use Rattle.storing.proofs.Passes.{stored_matched}
 use Rattle.storing.proofs.Placed.{in_strips, every_place}
 
 -- The parts of a file.
@@ -108,7 +109,7 @@ module _ (log : List ℕ) (right : right_length (length log) ≡ true) where
   strips_length : length (file_of (strip_bytes log) (strip_rows log)) ≤ 36871
   strips_length =
       let S = in_strips log some in
-      omega (arith, file_length (strip_bytes log) (strip_rows log), S.bytes_number_lem, S.rows_number, (right→ log (rw right tt)).few)
+      omega (arith, file_length (strip_bytes log) (strip_rows log), S.bytes_number, S.rows_number, (right→ log (rw right tt)).few)
 
   strips_restored : well_formed log ≡ true → ((i : ℕ) → get_or log i 0 < 2 ^ 64)
       → restore_file (file_of (strip_bytes log) (strip_rows log)) ≡ written (bytes_of log)

@@ -17,8 +17,10 @@ use Rattle.history.specs.WellFormed.{head_ok, fields_ok, open_at, alternates, ro
 use Rattle.history.proofs.Tests.{Tests, restated}
 use Rattle.storing.specs.Gather.{strip, gather}
 use Rattle.storing.specs.Strips.{strip_rows, log_of}
-use Rattle.storing.proofs.Gathered.{strip_append, strip_hit, strip_miss, strip_in, gather_nil}
-use Rattle.storing.proofs.Back.{Matched, processor_small}
+use Rattle.storing.proofs.Gathered.{strip_append, strip_hit, strip_miss, strip_in}
+use Rattle.storing.proofs.Onward.{gather_nil}
+use Rattle.storing.proofs.Back.{processor_small}
+use Rattle.storing.proofs.Matching.{Matched}
 use Rattle.storing.proofs.RoundTrip.{strips_back}
 
 -- the row w passes, of n readers; b says whether its processor's row before it begins

@@ -1,9 +1,14 @@
 pub mod Gathered
+pub mod Onward
 pub mod Counts
+pub mod Matching
 pub mod Back
+pub mod OwnRow
 pub mod RoundTrip
+pub mod Passes
 pub mod Formed
 pub mod Answers
+pub mod Risen
 pub mod Sorting
 pub mod Placed
 pub mod Unique

@@ -20,7 +20,7 @@ use Rattle.storing.specs.Strips.{strip_bytes, strip_rows, log_of, matched}
 use Rattle.storing.specs.Answer.{storing, restoring, Restored}
 use Rattle.storing.specs.File.{bytes_in, rest_in, whole, Written, refused, rows_file, store_file, log_file, restore_file}
 use Rattle.storing.proofs.Answers.{restore_9}
-use Rattle.storing.proofs.RoundTrip.{stored_matched}
+use Rattle.storing.proofs.Passes.{stored_matched}
 use Rattle.storing.proofs.Placed.{in_strips}
 
 module _ (log : List ℕ) where

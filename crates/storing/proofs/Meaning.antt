@@ -18,8 +18,10 @@ use Rattle.judging.proofs.Places.{laid_take}
 use Rattle.storing.specs.Strips.{strip_bytes, strip_rows, log_of, matched}
 use Rattle.storing.specs.Answer.{storing, restoring, Stored, Restored}
 use Rattle.storing.specs.Meaning.{StripsOf, Match, Front, StoreSays, says_0, says_9, says_10, says_11, RestoreSays, says_16}
-use Rattle.storing.proofs.Back.{Matched, matched→, log_length}
-use Rattle.storing.proofs.RoundTrip.{bytes_back, strips_back, stored_matched}
+use Rattle.storing.proofs.Back.{log_length}
+use Rattle.storing.proofs.Matching.{Matched, matched→}
+use Rattle.storing.proofs.RoundTrip.{bytes_back, strips_back}
+use Rattle.storing.proofs.Passes.{stored_matched}
 use Rattle.storing.proofs.Sorting.{match_if}
 use Rattle.storing.proofs.Placed.{in_strips}
 use Rattle.storing.proofs.Unique.{only_strips}
@@ -61,7 +63,7 @@ module _ {log b r b' r' : List ℕ} {k : ℕ} (S : Stored log b r b' r' k) where
       → Formed log → length log ≤ length b + 1 → length log ≤ length r → StoreSays log b r b' r' k
   store_yes e F a c =
       let I = in_strips log F.size.some in
-      let n : length (strip_bytes log) ≡ length log - 1 = omega (arith, I.bytes_number_lem) in
+      let n : length (strip_bytes log) ≡ length log - 1 = omega (arith, I.bytes_number) in
       let f : b' ≡ laid (strip_bytes log) b = S.bytes_are ∙ e _ _ _ in
       let g : r' ≡ laid (strip_rows log) r = S.rows_are ∙ e _ _ _ in
       subst (StoreSays log b r b' r') (sym (S.number ∙ e _ _ _))

@@ -10,7 +10,8 @@ use Rattle.history.specs.Rows.{processor_of, processor_at}
 use Rattle.storing.specs.Gather.{strip, gather}
 use Rattle.storing.specs.Strips.{strip_bytes, strip_rows}
 use Rattle.storing.specs.Meaning.{StripsOf}
-use Rattle.storing.proofs.Gathered.{strip_at, strip_less, strip_from, gather_suc, gather_more, gather_at, gather_all}
+use Rattle.storing.proofs.Gathered.{strip_at, strip_less, strip_from, gather_suc}
+use Rattle.storing.proofs.Onward.{gather_more, gather_at, gather_all}
 use Rattle.storing.proofs.Back.{processor_small, processor_at_lem}
 
 -- The rows after row 0, counted from 0.
@@ -83,7 +84,7 @@ pub in_strips : (log : List ℕ) → 1 ≤ length log → StripsOf log (strip_by
 unfolding strip_bytes strip_rows processor_at
 in_strips [] a = absurd (omega arith)
 in_strips (h ∷ r) a = record {
-  bytes_number_lem = omega (arith, length-map r processor_of);
+  bytes_number = omega (arith, length-map r processor_of);
   naming = λ k c. processor_at_lem r (k - 1) ∙ sym (of k c.0);
   rows_number = ap suc (gather_all processor_of 256 r (λ i _. processor_small (get_or r i 0)));
   row_0 = refl;

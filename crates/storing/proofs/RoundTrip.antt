@@ -1,5 +1,5 @@
 -- "Putting the strips back must give the log."
-use Prim.Native.Nat.{ℕ, suc, zero, ◌≤◌, ◌<◌, ◌+◌}
+use Prim.Native.Nat.{ℕ, suc, zero, ◌≤◌, ◌<◌}
 use native.Mathlib.Omega.{arith}
 use mathlib.Core.Path.{◌≡◌, refl, sym, ap, ◌∙◌}
 use mathlib.Core.Logic.{◌≢◌}
@@ -7,24 +7,15 @@ use native.Mathlib.Decide.{ℕ_discrete}
 use mathlib.Core.List.{List, [], ◌∷◌, ◌++◌, append-nil, map}
 use lib.ListN.{length, get_or, take, drop, length-map, take-append-drop}
 use lib.Seq.{ext_get_or, take_all, take-length, take-suc}
-use lib.Dec.{T, eqb}
-use Rattle.words.proofs.Laws.Choice.{and_T, eq→T}
-use Rattle.words.proofs.Laws.Same.{→same}
 use Rattle.history.specs.Rows.{processor_of}
 use Rattle.storing.specs.Gather.{strip, gather}
-use Rattle.storing.specs.Strips.{strip_bytes, strip_rows, back_at, back_to, log_of, sorted, matched}
-use Rattle.storing.proofs.Gathered.{gather_nil, gather_same, gather_all, map_gather, strip_append, strip_hit, strip_miss, strip_in, strip_at, strip_count, map_take}
+use Rattle.storing.specs.Strips.{strip_bytes, strip_rows, back_at, back_to, log_of}
+use Rattle.storing.proofs.Gathered.{gather_same, strip_append, strip_hit, strip_miss}
+use Rattle.storing.proofs.Onward.{gather_nil}
 use Rattle.storing.proofs.Counts.{count_hit, count_miss, count_less}
-use Rattle.storing.proofs.Back.{Matched, processor_small, processor_at_lem, length_back, back_at_lem, log_head, log_rest, rest_gathered, strip_size, back_processor}
-
--- The row of a byte is the one that it was stored for.
-own_row : (h : ℕ) (r : List ℕ) (i : ℕ) → i < length r → back_at (map processor_of r) (h ∷ gather processor_of 256 r) i ≡ get_or r i 0
-unfolding back_at
-own_row h r i a =
-    let p = processor_of (get_or r i 0) in
-    let c : length (strip (λ b. b) p (take i (map processor_of r))) ≡ length (strip processor_of p (take i r)) =
-    ap (λ (l : List ℕ). length (strip (λ b. b) p l)) (sym (map_take processor_of i r)) ∙ sym (strip_count processor_of p (take i r)) in
-    rw (processor_at_lem r i, strip_in processor_of p 256 r (processor_small (get_or r i 0)), c) (strip_at processor_of r i a)
+use Rattle.storing.proofs.OwnRow.{own_row}
+use Rattle.storing.proofs.Back.{processor_at_lem, length_back, back_at_lem, log_head, log_rest, rest_gathered, back_processor}
+use Rattle.storing.proofs.Matching.{Matched, strip_size}
 
 -- any rows
 pub log_back : (log : List ℕ) → log_of (strip_bytes log) (strip_rows log) ≡ log
@@ -102,12 +93,3 @@ module _ (bytes rows : List ℕ) (M : Matched bytes rows) (small : (k : ℕ) →
       whole p a =
           back_strip p (length bytes) (omega arith)
           ∙ take_all (length (strip (λ b. b) p (take (length bytes) bytes))) (strip processor_of p (drop 1 rows)) (rw (take-length bytes) (omega (arith, strip_size bytes rows M p a)))
-
--- What was stored passes question 16.
-pub stored_matched : (log : List ℕ) → 0 < length log → T (matched (strip_bytes log) (strip_rows log))
-unfolding matched sorted strip_bytes strip_rows
-stored_matched [] a = absurd (omega arith)
-stored_matched (h ∷ r) a =
-    and_T (eqb (suc (length (gather processor_of 256 r))) (length (map processor_of r) + 1)) _
-    (eq→T (suc (length (gather processor_of 256 r))) (length (map processor_of r) + 1) (omega (arith, gather_all processor_of 256 r (λ i _. processor_small (get_or r i 0)), length-map r processor_of)))
-    (→same _ _ (sym (map_gather processor_of 256 r)))

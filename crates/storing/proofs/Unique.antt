@@ -15,8 +15,8 @@ use Rattle.storing.proofs.Placed.{in_strips, every_place}
 -- Two pairs of strips of a log.
 module _ {log bytes rows bytes' rows' : List ℕ} (S : StripsOf log bytes rows) (U : StripsOf log bytes' rows') where
   same_bytes : bytes ≡ bytes'
-  same_bytes = ext_get_or 0 bytes bytes' (omega (arith, S.bytes_number_lem, U.bytes_number_lem)) (λ i a.
-      let c : (1 ≤ suc i) × (suc i < length log) = (omega arith, omega (arith, S.bytes_number_lem)) in
+  same_bytes = ext_get_or 0 bytes bytes' (omega (arith, S.bytes_number, U.bytes_number)) (λ i a.
+      let c : (1 ≤ suc i) × (suc i < length log) = (omega arith, omega (arith, S.bytes_number)) in
       let e : suc i - 1 ≡ i = omega arith in
       rw e at (S.naming (suc i) c ∙ sym (U.naming (suc i) c)))
 

@@ -12,7 +12,7 @@ After0 log k = (1 ≤ k) × (k < length log)
 -- The strips of a log: bytes, and rows.
 pub record StripsOf (log bytes rows : List ℕ) : Type 0 where
   -- "a byte per row after row 0, naming its processor"
-  pub bytes_number_lem : length bytes + 1 ≡ length log
+  pub bytes_number : length bytes + 1 ≡ length log
   pub naming : (k : ℕ) → After0 log k → get_or bytes (k - 1) 0 ≡ processor_at log k
   -- "and row 0, then"
   pub rows_number : length rows ≡ length log

@@ -18,7 +18,7 @@ use Rattle.protocol.proofs.Atomic.Sim.{ReadSim, Sim}
 use Rattle.protocol.proofs.Atomic.Frames.{Go, local_sim}
 use Rattle.protocol.proofs.Atomic.Attempts.{first_sim, announce_sim, second_sim, cell_sim}
 use Rattle.protocol.proofs.Atomic.Third.{third_sim}
-use Rattle.protocol.proofs.Atomic.Results.{store_sim}
+use Rattle.protocol.proofs.Atomic.Stores.{store_sim}
 
 module _ (n : ℕ) (few : n ≤ 16) (c val : ℕ → ℕ) (low : Low c val) (b : Model) (s : St) (me : ℕ → Reader) (i : ℕ) (hi : i < n)
     (z : Sim n c val b s me) where

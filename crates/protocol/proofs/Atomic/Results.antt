@@ -1,7 +1,7 @@
 -- A read's stores of its result in the book, and its end, are the numbered machine's.
 use Prim.Native.Nat.{ℕ, suc, ◌+◌, ◌≤◌, ◌<◌, max}
-use mathlib.Core.Path.{◌≡◌, refl, sym, ◌∙◌, ap, subst}
-use mathlib.Core.Logic.{◌≢◌, ◌⊎◌, inl, inr}
+use mathlib.Core.Path.{◌≡◌, refl, ◌∙◌, ap}
+use mathlib.Core.Logic.{◌≢◌, inl, inr}
 use mathlib.Core.List.{List}
 use native.Mathlib.Omega.{arith}
 use lib.Dec.{ltb}
@@ -11,7 +11,6 @@ use Rattle.words.specs.Index.{Pair}
 use Rattle.words.specs.Update.{upd}
 use Rattle.words.proofs.Laws.Choice.{pick_yes, pick_no}
 use Rattle.words.proofs.Laws.Update.{upd_elim, upd_same, upd_other, upd_own}
-use Rattle.numbered.proofs.Splits.{lt_or}
 use Rattle.numbered.proofs.Machine.{rest, storing, Reader, St}
 use Rattle.numbered.proofs.Attempt.{to}
 use Rattle.numbered.proofs.Stores.{r_put, r_done, r_store_inv, r_end_inv, r_end_order}
@@ -24,21 +23,20 @@ use Rattle.protocol.specs.Reference.{Model, Turn, shown, stores_to, result_turn}
 use Rattle.protocol.proofs.Table.{places}
 use Rattle.protocol.proofs.Atomic.Cells.{Low, stamp_of, back_of, cell_of, fits_cell}
 use Rattle.protocol.proofs.Atomic.Sim.{Storing, Sim}
-use Rattle.protocol.proofs.Atomic.Turns.{to_result}
 use Rattle.protocol.proofs.Atomic.Frames.{w_same, apart, ops, back_sim}
-use Rattle.protocol.proofs.Atomic.Attempts.{Goes, turn}
+use Rattle.protocol.proofs.Atomic.Attempts.{Goes}
 
 module _ (n : ℕ) (few : n ≤ 16) (c val : ℕ → ℕ) (low : Low c val) (b : Model) (s : St) (me : ℕ → Reader) (i : ℕ) (hi : i < n)
     (z : Sim n c val b s me) where
-  abbrev Next : Turn → Type 0
+  abbrev pub Next : Turn → Type 0
   Next = Goes n c val low b s me i hi z
 
   module _ (m f p m' k : ℕ) (cells : List Cell) (e : (me i).ph ≡ storing f p m' k) (t : Storing n c val i cells m p m' k) where
-    abbrev q : ℕ
+    abbrev pub q : ℕ
     q = t.q
 
     -- the reader stored to, and the table behind it
-    abbrev dest : ℕ
+    abbrev pub dest : ℕ
     dest = suc (peer i q)
 
     abbrev stored : List ℕ
@@ -59,7 +57,7 @@ module _ (n : ℕ) (few : n ≤ 16) (c val : ℕ → ℕ) (low : Low c val) (b :
         (λ l nk hl ne. view_other (places n) (suc i) dest b.table _ (there more) (suc i) (suc l) (omega arith) (inr (omega (arith, t.k_is))) ∙ z.between i l hi hl ne) l hl ne)
         (λ j ni hj ne. old more (suc j) (suc l) (omega arith) (omega arith) ∙ z.between j l hj hl ne) j hj ne
 
-    put_sim : suc q < n → Next (stores_to n (suc i) b.table (b.stamp (suc i)) m cells dest (shown t.x))
+    pub put_sim : suc q < n → Next (stores_to n (suc i) b.table (b.stamp (suc i)) m cells dest (shown t.x))
     put_sim more = (
       r_put n c s i k p,
       upd me i (to (me i) (storing f p m' (peer i (suc q)))),
@@ -85,7 +83,7 @@ module _ (n : ℕ) (few : n ≤ 16) (c val : ℕ → ℕ) (low : Low c val) (b :
           stamp_is = t.stamp_is;
           shown_is = t.shown_is;
         });
-        writer = rw (upd_other b.op (suc i) (open_with 0 (m + 1) cells) 0 (omega arith)) (w_same n c val s s.F _ (b.op 0) z.writer);
+        writer = rw (upd_other b.op (suc i) (open_with 0 (m + 1) cells) 0 (omega arith)) (w_same n c val s s.F (r_put n c s i k p).x (b.op 0) z.writer);
         log_ok = rw (upd_other b.op (suc i) (open_with 0 (m + 1) cells) 0 (omega arith)) (log_keep n val _ _ _ _ _ me _ z.log_ok i _ (rw e));
       },
       refl,
@@ -95,10 +93,10 @@ module _ (n : ℕ) (few : n ≤ 16) (c val : ℕ → ℕ) (low : Low c val) (b :
         back j h = view_other (places n) (suc i) dest b.table _ (there more) (suc j) 0 (omega arith) (inr (omega arith)) ∙ z.to_writer j h
 
     -- the turn at the read's end
-    abbrev ended : Turn
+    abbrev pub ended : Turn
     ended = record { op = idle; stamp = t.x.stamp; table = store n b.table (suc i) 0 (plain 0 t.x.stamp); value = t.x.value }
 
-    end_sim : n ≡ suc q → Next ended
+    pub end_sim : n ≡ suc q → Next ended
     end_sim last =
         let e' : (me i).ph ≡ storing f p m' n = e ∙ ap (λ (k : ℕ). storing f p m' k) (t.k_is ∙ peer_last i q n hi last) in
         let fm = r_end_order n c s me i hi z.inv f p m' e' in (
@@ -113,24 +111,15 @@ module _ (n : ℕ) (few : n ≤ 16) (c val : ℕ → ℕ) (low : Low c val) (b :
         )
 
     -- The result goes to the other readers in rising order, and last of all to the writer.
-    abbrev at_q : Turn
+    abbrev pub at_q : Turn
     at_q = result_turn n (suc i) b.table (b.stamp (suc i)) m cells q t.x
 
-    put_is : suc q < n → at_q ≡ stores_to n (suc i) b.table (b.stamp (suc i)) m cells dest (shown t.x)
+    pub put_is : suc q < n → at_q ≡ stores_to n (suc i) b.table (b.stamp (suc i)) m cells dest (shown t.x)
     unfolding result_turn
     put_is more =
         pick_yes (ltb (q + 1) n) _ _ (lt-ltb (q + 1) n (omega arith))
         ∙ ap (λ (j : ℕ). stores_to n (suc i) b.table (b.stamp (suc i)) m cells j (shown t.x)) (other_peer i q)
 
-    end_is : n ≡ suc q → at_q ≡ ended
+    pub end_is : n ≡ suc q → at_q ≡ ended
     unfolding result_turn
     end_is last = pick_no (ltb (q + 1) n) _ _ (le-ltb (q + 1) n (omega arith))
-
-    pub store_sim : Next (turn n c val low b s me i hi z m cells)
-    store_sim = to_result n (suc i) _ _ m cells Next t.M q t.x t.m_is t.out t.low (go (lt_or (suc q) n))
-      where
-        go : (suc q < n) ⊎ (n ≤ suc q) → Next at_q
-        go (inl more) = subst Next (sym (put_is more)) (put_sim more)
-        go (inr last) =
-            let g : n ≡ suc q = omega (arith, t.low) in
-            subst Next (sym (end_is g)) (end_sim g)

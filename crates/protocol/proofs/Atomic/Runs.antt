@@ -1,5 +1,5 @@
 -- Every list of calls leaves a log that can be swept.
-use Prim.Native.Nat.{ℕ, suc, ◌+◌, ◌^◌, ◌≤◌, ◌<◌}
+use Prim.Native.Nat.{ℕ, suc, ◌^◌, ◌≤◌, ◌<◌}
 use mathlib.Core.Path.{◌≡◌, refl, ap}
 use mathlib.Core.List.{List, ◌∷◌, ◌++◌}
 use native.Mathlib.Omega.{arith}
@@ -107,5 +107,5 @@ module _ (n len v : ℕ) (cs : List Call) (pos : 1 ≤ n) (few : n ≤ 16) (v_lo
   model_swept =
       let r =
       calls_follow book n len at_begin (at_step n) given _ _ (follows n pos few len given low) (fresh_model book n v 0) (fresh_st, fresh_me) cs lows fresh_sim
-      (from_start no_ticket _ _ (tickets n len (fresh_model book n v 0) cs)) in
+      (from_start no_ticket (record { ticket = 1; value = v }) (record { ticket = 0; value = v }) (tickets n len (fresh_model book n v 0) cs)) in
       (_, _, _, r.1.log_ok.swept)

@@ -71,15 +71,19 @@ eq→T m n e = rw e (eqb_refl n)
 
 pub and_T : (a b : Bool) → T a → T b → T (a && b)
 and_T true b x y = y
+and_T false b x y = elim x [ ]
 
 pub T-left : (a b : Bool) → T (a && b) → T a
 T-left true b x = tt
+T-left false b x = elim x [ ]
 
 pub T-right : (a b : Bool) → T (a && b) → T b
 T-right true b x = x
+T-right false b x = elim x [ ]
 
 pub T→true : (b : Bool) → T b → b ≡ true
 T→true true t = refl
+T→true false t = elim t [ ]
 
 pub not→false : (b : Bool) → (T b → ⊥) → b ≡ false
 not→false true f = absurd (f tt)

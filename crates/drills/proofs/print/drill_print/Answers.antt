@@ -1,0 +1,8 @@
+use native.Mathlib.Omega.{arith}
+use Rattle.lines.proofs.Puts.{within, whole}
+use Rattle.printing.proofs.DrillShort.{drill_short}
+use Rattle.drills.proofs.print.drill_print.Goals as goal
+
+pub returns : goal.returns
+returns c =
+    let p = c.put_input.ensures in record { print = p; within = within p; whole = λ room. whole p (omega (arith, drill_short c.args.bytes.now, room)) }

@@ -1,0 +1,5 @@
+use Rattle.judge.specs.Frame.{KeepsLittle}
+use Rattle.judge.proofs.row.processor.Code.{function}
+
+keeps_little : KeepsLittle function
+keeps_little = record { small = tt; inside = tt }

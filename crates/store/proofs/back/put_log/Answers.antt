@@ -1,0 +1,56 @@
+use native.Mathlib.Omega.{arith}
+use mathlib.Core.Path.{refl, ◌∙◌}
+use lib.ListN.{get_or, length-set}
+use Rattle.store.proofs.Nexts.{some_rows, fewer_bytes, putting_start, over_log, all_put, byte_in, place_in, one_put}
+use Rattle.store.proofs.back.put_log.Goals as goal
+
+pub put_starts-requires : goal.put_starts-requires
+put_starts-requires c =
+    (omega (arith, c.requires.1, fewer_bytes c.args.bytes.now c.args.rows.now c.requires.0), refl)
+
+pub bounds-rows-0 : goal.bounds-rows-0
+bounds-rows-0 c = some_rows c.args.bytes.now c.args.rows.now c.requires.0
+
+pub bounds-log-0 : goal.bounds-log-0
+bounds-log-0 c = omega (arith, c.requires.2, some_rows c.args.bytes.now c.args.rows.now c.requires.0)
+
+pub loop-k-init : goal.loop-k-init
+loop-k-init c =
+    let p = c.put_starts in
+    putting_start c.args.bytes.now c.args.rows.now c.requires.0 c.args.log.now _ c.requires.1 c.requires.2 p.auto.next p.ensures
+
+pub bounds-bytes-k : goal.bounds-bytes-k
+bounds-bytes-k c = byte_in c.loop-k.invariant (omega arith)
+
+pub bounds-next-p : goal.bounds-next-p
+bounds-next-p c = c.wide-p.ensures.1
+
+pub offset_bounds-rows-at : goal.offset_bounds-rows-at
+offset_bounds-rows-at c =
+    let l = c.loop-k in
+    omega (arith, l.invariant.few, place_in l.invariant (omega arith) c.wide-p.ensures.0 c.wide-p.ensures.1)
+
+pub bounds-rows-at : goal.bounds-rows-at
+bounds-rows-at c = place_in c.loop-k.invariant (omega arith) c.wide-p.ensures.0 c.wide-p.ensures.1
+
+pub bounds-log-k : goal.bounds-log-k
+bounds-log-k c = let l = c.loop-k in omega (arith, l.invariant.same_length, l.invariant.room)
+
+pub overflow_add-next : goal.overflow_add-next
+overflow_add-next c =
+    let l = c.loop-k in
+    omega (arith, l.invariant.few, place_in l.invariant (omega arith) c.wide-p.ensures.0 c.wide-p.ensures.1)
+
+pub bounds-next-p-in-loop-k : goal.bounds-next-p-in-loop-k
+bounds-next-p-in-loop-k c = c.wide-p.ensures.1
+
+pub loop-k-preserved : goal.loop-k-preserved
+loop-k-preserved c = one_put c.loop-k.invariant (omega arith) c.wide-p.ensures.0 c.wide-p.ensures.1
+
+pub shape_of-log : goal.shape_of-log
+shape_of-log c =
+    c.loop-k.invariant.same_length ∙ length-set c.args.log.now 0 (get_or c.args.rows.now 0 0)
+
+pub returns : goal.returns
+returns c =
+    all_put c.loop-k.invariant (omega arith) ∙ over_log c.args.bytes.now c.args.rows.now c.requires.0 c.args.log.now c.requires.2

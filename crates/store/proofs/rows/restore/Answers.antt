@@ -1,0 +1,52 @@
+use Prim.Native.Nat.{ℕ, ◌<◌}
+use mathlib.Core.Path.{sym, ◌∙◌}
+use lib.Dec.{T}
+use lib.ListN.{length, get_or}
+use Rattle.storing.specs.Strips.{matched}
+use Rattle.storing.proofs.Answers.{restore_16, restore_9, restore_10, restore_11, restore_yes}
+use Rattle.store.proofs.Said.{restored, asked_of_rows, few}
+use Rattle.store.proofs.rows.restore.Goals as goal
+
+pub returns-else-matching : goal.returns-else-matching
+returns-else-matching c =
+    let f = c.shared_slice_known-1 in let both = restored (λ i _. (f.given i).fits) (restore_16 _ _ _ c.matching.ensures c.if-matching.false) in record { leaves = both.0; meaning = both.1 }
+
+pub returns-else-right_length : goal.returns-else-right_length
+returns-else-right_length c =
+    let f = c.shared_slice_known-1 in let both = restored (λ i _. (f.given i).fits) (restore_9 _ _ _ c.matching.ensures c.if-matching.true c.right_length.ensures c.if-right_length.false) in record { leaves = both.0; meaning = both.1 }
+
+pub returns-else-well_formed : goal.returns-else-well_formed
+returns-else-well_formed c =
+    let a = c.args in
+    let b = a.bytes.now in
+    let r = a.rows.now in
+    let s : (i : ℕ) → i < length b → get_or b i 0 < 256 = λ i _. (c.shared_slice_known-1.given i).fits in
+    let t : T (matched b r) = rw (sym c.matching.ensures ∙ c.if-matching.true) tt in
+    let w = asked_of_rows b r s t c.well_formed-2.ensures in let both = restored s
+    (restore_10 b r _ c.matching.ensures c.if-matching.true c.right_length.ensures c.if-right_length.true w c.if-well_formed.false) in record { leaves = both.0; meaning = both.1 }
+
+pub returns-then-log-rows : goal.returns-then-log-rows
+returns-then-log-rows c =
+    let a = c.args in
+    let b = a.bytes.now in
+    let r = a.rows.now in
+    let s : (i : ℕ) → i < length b → get_or b i 0 < 256 = λ i _. (c.shared_slice_known-1.given i).fits in
+    let t : T (matched b r) = rw (sym c.matching.ensures ∙ c.if-matching.true) tt in
+    let w = asked_of_rows b r s t c.well_formed-2.ensures in let both = restored s
+    (restore_11 b r _ c.matching.ensures c.if-matching.true c.right_length.ensures c.if-right_length.true w c.if-well_formed.true c.if-log-rows.true) in record { leaves = both.0; meaning = both.1 }
+
+pub put_log-requires : goal.put_log-requires
+put_log-requires c =
+    let r = c.args.rows.now in
+    (rw (sym c.matching.ensures ∙ c.if-matching.true) tt, few r c.right_length.ensures c.if-right_length.true, c.if-log-rows.false)
+
+pub returns : goal.returns
+returns c =
+    let a = c.args in
+    let b = a.bytes.now in
+    let r = a.rows.now in
+    let s : (i : ℕ) → i < length b → get_or b i 0 < 256 = λ i _. (c.shared_slice_known-1.given i).fits in
+    let t : T (matched b r) = rw (sym c.matching.ensures ∙ c.if-matching.true) tt in
+    let w = asked_of_rows b r s t c.well_formed-2.ensures in let both = restored s
+    (restore_yes b r _ c.matching.ensures c.if-matching.true c.right_length.ensures c.if-right_length.true w
+    c.if-well_formed.true c.if-log-rows.false c.put_log.ensures) in record { leaves = both.0; meaning = both.1 }
