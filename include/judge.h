@@ -1,4 +1,4 @@
-/* The judge, for a host in C. Link target/staticlib/libjudge.a, which `rt staticlib judge` writes. */
+/* The judge, for a host in C. Link target/staticlib/libjudge.a, which `tools/staticlib.sh judge` writes. */
 #ifndef JUDGE_H
 #define JUDGE_H
 

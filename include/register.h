@@ -1,6 +1,6 @@
 /* The registers, for a host in C: one call at a time over a state that the host keeps, or a whole list of calls. Link
-   target/staticlib/libentries.a for the first, target/staticlib/libhost.a for the second; `rt staticlib entries` and
-   `rt staticlib host` write them.
+   target/staticlib/libentries.a for the first, target/staticlib/libhost.a for the second; `tools/staticlib.sh entries host`
+   writes them.
 
    A register has one writer, processor 0, and readers 1 to n. Its table and its log are lent to every call, the same ones, and
    nothing else writes them meanwhile. The buffers of a call, and the state, do not overlap. Nothing else is read or written,

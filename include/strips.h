@@ -1,4 +1,4 @@
-/* A log stored in strips and put back, for a host in C. Link target/staticlib/libstore.a, which `rt staticlib store` writes.
+/* A log stored in strips and put back, for a host in C. Link target/staticlib/libstore.a, which `tools/staticlib.sh store` writes.
 
    The strips of a log stand in two buffers: a byte for each row after row 0, naming its processor; and the rows again, row 0 first,
    then all rows of processor 0, of 1, and so on, each in log order. For the rows see judge.h.

@@ -6,9 +6,7 @@ cd "$(dirname "$0")/.."
 out=target/perf
 mkdir -p "$out"
 
-for crate in judge host; do
-    rt staticlib "$crate" > "$out/prove.txt" 2>&1 || { tail "$out/prove.txt"; exit 1; }
-done
+tools/staticlib.sh judge host > "$out/prove.txt" 2>&1 || { tail "$out/prove.txt"; exit 1; }
 rustc --edition 2024 -C opt-level=3 -C codegen-units=1 perf/main.rs -o "$out/perf" -L target/staticlib -l static=judge -l static=host
 
 {

@@ -5,7 +5,7 @@
 import re
 from pathlib import Path
 
-HEAD = re.compile(r'^(?:#\[no_mangle\]\n)?pub (?:extern "C" )?fn (\w+)(.*?)^\{$', re.DOTALL | re.MULTILINE)
+HEAD = re.compile(r'^(?:#\[unsafe\(no_mangle\)\]\n)?pub (?:extern "C" )?fn (\w+)(.*?)^\{$', re.DOTALL | re.MULTILINE)
 
 
 def main():

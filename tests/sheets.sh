@@ -4,12 +4,12 @@
 . "$(dirname "$0")/build.sh"
 count=${1:-2000}
 
-proved check sheet
+program sheet
 python3 tests/sheet_cases.py "$out" "$count"
-printf '%s\0' "$out"/logs/*.log | xargs -0 -n 100 target/bin/sheet > "$out/given"
+printf '%s\0' "$out"/logs/*.log | xargs -0 -n 100 crates/sheet/out/sheet > "$out/given"
 cmp "$out/expected" "$out/given"
 
-target/bin/sheet < examples/paces.log > "$out/example"
+crates/sheet/out/sheet < examples/paces.log > "$out/example"
 cmp examples/paces.out "$out/example"
 python3 tools/bars.py < "$out/example" | cmp examples/paces.svg -
 
@@ -25,7 +25,7 @@ refused() {
 
 # Pictures of the gate's sheets: each is XML with a bar a reader that looked, and one for all; what is no sheet, or two, is told, with status 1.
 for log in crates/sheet/data/*.log; do
-    target/bin/sheet < "$log" > "$out/print"
+    crates/sheet/out/sheet < "$log" > "$out/print"
     if [ "$(tail -1 "$out/print" | cut -d' ' -f1)" = all ]; then
         python3 tools/bars.py < "$out/print" > "$out/picture.svg"
         python3 -c 'import sys, xml.dom.minidom; xml.dom.minidom.parse(sys.argv[1])' "$out/picture.svg"

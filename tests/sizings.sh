@@ -4,11 +4,11 @@
 . "$(dirname "$0")/build.sh"
 count=${1:-6000}
 
-proved check sizing
+program sizing
 python3 tests/sizing_cases.py "$out" "$count"
-printf '%s\0' "$out"/inputs/*.txt | xargs -0 -n 1000 target/bin/sizing > "$out/given"
+printf '%s\0' "$out"/inputs/*.txt | xargs -0 -n 1000 crates/sizing/out/sizing > "$out/given"
 cmp "$out/expected" "$out/given"
 
-target/bin/sizing < examples/sizing.txt > "$out/example"
+crates/sizing/out/sizing < examples/sizing.txt > "$out/example"
 cmp examples/sizing.out "$out/example"
 echo "$count inputs and the example: sizing and the model agree; $SECONDS s"

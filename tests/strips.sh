@@ -9,10 +9,10 @@ python3 tests/strips_cases.py calls "$out" "$count"
 "$out/strips" < "$out/in" > "$out/given"
 cmp "$out/expected" "$out/given"
 
-proved check strips
-python3 tests/strips_cases.py files target/bin/strips 200
+program strips
+python3 tests/strips_cases.py files crates/strips/out/strips 200
 for strips in examples/*.strips; do
-    target/bin/strips store < "${strips%.strips}.log" | cmp "$strips" -
-    target/bin/strips restore < "$strips" | cmp "${strips%.strips}.log" -
+    crates/strips/out/strips store < "${strips%.strips}.log" | cmp "$strips" -
+    crates/strips/out/strips restore < "$strips" | cmp "${strips%.strips}.log" -
 done
 echo "$count calls, the files and the examples: strips and the model agree; $SECONDS s"

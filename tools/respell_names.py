@@ -23,6 +23,14 @@ FIRST = {
     "one_line": "one_line_lem", "read_left": "left_read", "rows_fit": "rows_fit_lem", "rows_in": "rows_in_lem", "still_open": "still_open_lem",
     "value_in": "open_value", "zero_bits": "bits_zero",
 }
+# Where two names fall together and neither is a lemma, the second's own new name.
+SECOND = {
+    "bytes-number": "bytes_number", "new-ticket": "new_ticket", "no-order": "no_order", "read-ends": "read_ends", "begun-before": "begun_count",
+    "in-range": "is_in_range", "readers-ok": "readers_pass", "writer-ok": "writer_passes", "stamp-ok": "stamp_passes",
+}
+# In a comment these are English.
+PROSE = {"set-up", "well-formed"}
+COMMENT = re.compile(r"(?:--|//) ")
 # These stand in comments and strings alone: no name meets them.
 FREE = {"row_place", "step_at"}
 # A path into proofs/, or a step of an answer's c, up to the name
@@ -88,7 +96,9 @@ def main(root, dry):
         olds.sort(key=lambda n: ("-" in n, n))
         free = s not in taken
         for n in olds:
-            if free:
+            if n in SECOND and not free:
+                new[n] = SECOND[n]
+            elif free:
                 new[n], free = s, False
             else:
                 t = s + "_lem"
@@ -106,6 +116,8 @@ def main(root, dry):
     def turned(text, skip=(), first=True):
         # in a path of proofs/, and in src/, a name of FIRST is a function's
         def word(m):
+            if m[0] in PROSE and COMMENT.search(text, text.rfind("\n", 0, m.start()) + 1, m.start()):
+                return m[0]
             if m[0] not in new or m[0] in skip or (m[0] in FIRST and (not first or PATH.search(text[max(0, m.start() - 90) : m.start()]))):
                 return m[0]
             return new[m[0]]
