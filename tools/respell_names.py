@@ -36,7 +36,6 @@ FREE = {"row_place", "step_at"}
 # A path into proofs/, or a step of an answer's c, up to the name
 PATH = re.compile(r"(?:Rattle\.\w+\.proofs\.[\w.]*|\bc\.[\w.]*|::)$")
 KEYWORDS = {"use", "module", "where", "let", "in", "elim", "as", "mod", "open", "unfolding"}
-ANSWERS = {"Answers.antt", "Invariants.antt", "Proof.antt"}
 GOAL = re.compile(r"^ *(?:abbrev )?(?:pub )?(\S+) : (?:goal\.|tie\.|\{M)")
 USE = re.compile(r"use ([^\s;{]+)\.?(?:\{([^}]*)\})?")
 
