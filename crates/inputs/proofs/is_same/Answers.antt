@@ -1,4 +1,4 @@
-use Rattle.std.proofs.Common.{ℕ, List, length, get_or, ap, sym, arith}
+use Rattle.std.proofs.Common.{◌≡◌, ℕ, List, length, get_or, ap, sym, arith}
 use lib.Seq.{ext_get_or}
 use Rattle.words.specs.Same.{same}
 use Rattle.words.proofs.Laws.Choice.{T→true, not→false}
@@ -11,7 +11,9 @@ returns-then-text-word c = sym (not→false (same _ _) (λ t. c.if-text-word.tru
 pub returns-then-text-i : goal.returns-then-text-i
 returns-then-text-i c =
     let i = c.loop-i.i in
-    sym (not→false (same _ _) (λ t. c.if-text-i.true (ap (λ (l : List ℕ). get_or l i 0) (same→ _ _ t))))
+    sym (not→false (same _ _) (λ t.
+    let same_byte : get_or c.args.text.now i 0 ≡ get_or c.args.word.now i 0 = ap (λ (l : List ℕ). get_or l i 0) (same→ _ _ t) in
+    omega arith))
 
 pub returns : goal.returns
 returns c = sym (T→true (same _ _) (→same _ _ (ext_get_or 0 _ _ c.loop-i.invariant.1 (λ j a. c.loop-i.invariant.2 j (omega arith)))))
