@@ -8,7 +8,7 @@ cd "$(dirname "$0")/../crates"
 # facts CRATE LIST: the list's own names are the crate's, and each has its fact.
 facts() {
     local crate=$1 names name path missing=0
-    names=$(sed -n "/^$2 =/,/∷ \(\[\]\|of_rows\)\$/p" "$crate/specs/Frame.antt" | grep -o "$crate::[a-z_:]*")
+    names=$(sed -n "/^$2 =/,/∷ \(\[\]\|of_rows\)\$/p" "$crate/specs/Frame.antt" | grep -o "$crate::[A-Za-z_:]*")
     for name in $names; do
         path=${name#"$crate"::}
         if ! grep -qsx 'keeps_little : KeepsLittle function' "$crate/proofs/${path//:://}/Answers.antt"; then

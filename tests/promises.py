@@ -5,14 +5,15 @@
 import re
 from pathlib import Path
 
-HEAD = re.compile(r'^(?:#\[unsafe\(no_mangle\)\]\n)?pub (?:extern "C" )?fn (\w+)(.*?)^\{$', re.DOTALL | re.MULTILINE)
+# A function of a module, or a method: its body begins where the brace stands as far in as its head.
+HEAD = re.compile(r'^( *)pub (?:extern "C" )?fn (\w+)(.*?)^\1\{$', re.DOTALL | re.MULTILINE)
 
 
 def main():
     crates = Path(__file__).resolve().parent.parent / 'crates'
     kept, broken = 0, []
     for source in sorted(crates.glob('*/src/**/*.rt')):
-        for name, head in HEAD.findall(source.read_text()):
+        for _, name, head in HEAD.findall(source.read_text()):
             if 'ensures' in head and 'requires' not in head:
                 kept += 1
             else:

@@ -2,35 +2,31 @@
 // its inputs: see the crate `inputs`.
 #![tactic(auto)]
 
-ghost use Rattle.std.specs.Prelude.{◌≡◌, length};
+ghost use Rattle.std.specs.Prelude.{refl};
+ghost use Rattle.inputs.proofs.Fits.{fits};
+ghost use Rattle.printing.specs.Print.{bench_print};
+ghost use Rattle.printing.proofs.Short.{bench_short};
 
+use inputs::{Prints, TEXT};
 use prints::bench::bench_print;
 use std::io;
 
-// Room for every print.
-fn print_bytes() -> [u8; 1048576]
-    ensures { 1048576 ≡ length result }
-{
-    [0; 1048576]
-}
+struct Bench;
 
-// The print of input k. Of an input that is longer than 65,536 bytes one more is read.
-fn print_input(rt: &HostRuntime, k: usize) -> io::Result<()> {
-    let mut bytes = inputs::text_bytes();
-    let input = inputs::read(rt, k, &mut bytes);
-    if input.found {
-        let count = input.count;
-        let mut out = print_bytes();
-        let n = bench_print(&bytes[..count], &mut out);
-        rt.write_all(&out[..n])?;
+impl Prints<TEXT, 1048576> for Bench {
+    ghost said = { bench_print };
+
+    fn print(bytes: &[u8], out: &mut [u8]) -> usize {
+        bench_print(bytes, out)
     }
-    Ok(())
+
+    ghost short = { bench_short };
+
+    ghost room_fits = { fits 65537 refl };
+
+    ghost size_fits = { fits 1048576 refl };
 }
 
 fn main(rt: HostRuntime) -> io::Result<()> {
-    let end = inputs::end(&rt);
-    for k in 1..end {
-        print_input(&rt, k)?;
-    }
-    Ok(())
+    Bench::print_each(&rt)
 }

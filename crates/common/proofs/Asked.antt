@@ -36,17 +36,7 @@ module _ {Stamp Cell : Type 0} (P : Told Stamp Cell → Type 0) (n : ℕ) (b : M
 
 -- A reader, as it counts if it is retired or not.
 abbrev counted_if : Reader → Bool → Reader
-counted_if r retired = record {
-  retired = r.retired;
-  active = still_open retired r.active;
-  second = r.second;
-  moved = r.moved;
-  stamp = r.stamp;
-  look = r.look;
-  agree = r.agree;
-  found = r.found;
-  result = r.result;
-}
+counted_if r retired = record r { active = still_open retired r.active }
 
 pub counted_if_lem : (r : Reader) (b : Bool) → r.retired ≡ b → as_counted r ≡ counted_if r b
 counted_if_lem r b e = ap (counted_if r) e

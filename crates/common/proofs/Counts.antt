@@ -1,4 +1,5 @@
 -- The call that follows a list, in the book and in the register: a sub-step of an open operation, and a retired reader's call.
+use Rattle.std.specs.Prelude.{Ok, Err}
 use Prim.Native.Nat.{ℕ, ◌+◌, ◌≤◌}
 use mathlib.Core.Path.{◌≡◌, sym, ap, ◌∙◌}
 use mathlib.Core.Bool.{true, false}
@@ -9,7 +10,7 @@ use lib.Dec.{leb}
 use borrow.Author.Tests.{le-leb, ne_eqb}
 use Rattle.words.proofs.Laws.Choice.{both}
 use Rattle.common.specs.Calls.{Call, step, retire, CallBy, by_begin, by_step, by_retirement}
-use Rattle.common.specs.declared.Answer.TheVariants.{Moved, Refused}
+use Rattle.common.specs.declared.Done.TheVariants.{Moved}
 use Rattle.common.specs.declared.Refusal.TheVariants.{Retired}
 use Rattle.common.specs.declared.Writer.{Writer}
 use Rattle.common.specs.declared.Reader.{Reader}
@@ -32,7 +33,7 @@ module _ {Stamp Cell : Type 0} (B : Telling Stamp Cell) (n len : ℕ) (b : Model
   unfolding told
   read_told p q p1 pn free e = rw (e, free, both (leb 0 p) (leb p n) (le-leb 0 p (omega arith)) (le-leb p n pn), ne_eqb p 0 (omega arith))
 
-  pub out_told : (p : ℕ) → 1 ≤ p → p ≤ n → b.retired p ≡ true → (c : Call) → CallBy p c → (told B n len b c).answer ≡ Refused Retired
+  pub out_told : (p : ℕ) → 1 ≤ p → p ≤ n → b.retired p ≡ true → (c : Call) → CallBy p c → (told B n len b c).answer ≡ Err Retired
   unfolding told
   out_told p p1 pn gone c by_begin = rw (both (leb 1 p) (leb p n) (le-leb 1 p p1) (le-leb p n pn), gone)
   out_told p p1 pn gone c by_step = rw (both (leb 0 p) (leb p n) (le-leb 0 p (omega arith)) (le-leb p n pn), gone)
@@ -48,9 +49,9 @@ retires_to R s t l p e p1 pn free = rw (e, both (leb 1 p) (leb p s.head.n) (le-l
 module _ {Stamp Cell : Type 0} (R : Rules) (B : Telling Stamp Cell) (WIs : ℕ → Writer → Stamp → Operation Cell → Type 0)
     (RIs : ℕ → Reader → Stamp → Operation Cell → Type 0) (W : Lawful R) (S : Simulates R B WIs RIs) (X L : List ℕ) (s : State) (t l : List ℕ) (b : Model Stamp Cell)
     (g : Good R s (length t) (length l)) (A : Rel R B WIs RIs X L s t l b) (full : length L ≡ s.head.rows) (v m : ℕ) (cells : List Cell) where
-  pub write_number : b.op 0 ≡ open_with v m cells → (call_of R s t l (step 0)).answer ≡ Moved (m + 1)
+  pub write_number : b.op 0 ≡ open_with v m cells → (call_of R s t l (step 0)).answer ≡ Ok (Moved (m + 1))
   write_number e = (call_rel R B WIs RIs W S X L s t l b g A full (step 0)).answer_is ∙ ap (λ (x : Told Stamp Cell). x.answer) (write_told B s.head.n s.head.rows b _ (sym (A.retired_are 0 (omega arith))) e)
 
-  pub read_number : (p : ℕ) → 1 ≤ p → p ≤ s.head.n → b.retired p ≡ false → b.op p ≡ open_with v m cells → (call_of R s t l (step p)).answer ≡ Moved (m + 1)
+  pub read_number : (p : ℕ) → 1 ≤ p → p ≤ s.head.n → b.retired p ≡ false → b.op p ≡ open_with v m cells → (call_of R s t l (step p)).answer ≡ Ok (Moved (m + 1))
   read_number p p1 pn free e =
       (call_rel R B WIs RIs W S X L s t l b g A full (step p)).answer_is ∙ ap (λ (x : Told Stamp Cell). x.answer) (read_told B s.head.n s.head.rows b p _ p1 pn free e)

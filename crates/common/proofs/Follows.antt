@@ -1,4 +1,5 @@
 -- A machine that numbers the writes follows a register's book: it does so for every list of calls if it does so operation by operation.
+use Rattle.std.specs.Prelude.{Ok, Err}
 use Prim.Native.Nat.{ℕ, zero, suc, ◌+◌, ◌^◌, ◌<◌}
 use mathlib.Core.Path.{◌≡◌, refl, subst, ap}
 use mathlib.Core.Bool.{false}
@@ -7,8 +8,8 @@ use native.Mathlib.Omega.{arith}
 use lib.ListN.{get_or}
 use Rattle.words.proofs.Laws.Choice.{pick_ind, le_ind, eq_ind, never}
 use Rattle.common.specs.Calls.{Call, write, read, step, retire, LowCall, LowCalls}
-use Rattle.common.specs.declared.Answer.{Answer}
-use Rattle.common.specs.declared.Answer.TheVariants.{Accepted, Moved, Refused}
+use Rattle.common.specs.Answers.{Answer}
+use Rattle.common.specs.declared.Done.TheVariants.{Accepted, Moved}
 use Rattle.common.specs.Book.{Operation, idle, open_with, is_open, Model, Telling, Told, begun, begins, entered, withdrawn, begins_write, moves_write, moves_read, told, kept}
 use Rattle.common.proofs.Asked.{of_processor_lem}
 
@@ -59,13 +60,13 @@ module _ {Stamp Cell X : Type 0} (B : Telling Stamp Cell) (n len : ℕ) (at_begi
   moving b (open_with v m cells) = at_step b v m cells
 
   abbrev gained : Model Stamp Cell → Call → Answer → List X
-  gained b (write v) Accepted = at_begin v
-  gained b (write v) (Moved k) = []
-  gained b (write v) (Refused r) = []
+  gained b (write v) (Ok Accepted) = at_begin v
+  gained b (write v) (Ok (Moved k)) = []
+  gained b (write v) (Err r) = []
   gained b (read p) a = []
-  gained b (step zero) Accepted = []
-  gained b (step zero) (Moved k) = moving b (b.op 0)
-  gained b (step zero) (Refused r) = []
+  gained b (step zero) (Ok Accepted) = []
+  gained b (step zero) (Ok (Moved k)) = moving b (b.op 0)
+  gained b (step zero) (Err r) = []
   gained b (step (suc i)) a = []
   gained b (retire p) a = []
 
@@ -82,13 +83,13 @@ module _ {Stamp Cell X : Type 0} (B : Telling Stamp Cell) (n len : ℕ) (at_begi
     moving_all b (open_with v m cells) e h = sub-step b v m cells e h
 
     gained_all : (b : Model Stamp Cell) (c : Call) (a : Answer) → LowCall c → I b → All Q (gained b c a)
-    gained_all b (write v) Accepted low h = begin v low
-    gained_all b (write v) (Moved k) low h = tt
-    gained_all b (write v) (Refused r) low h = tt
+    gained_all b (write v) (Ok Accepted) low h = begin v low
+    gained_all b (write v) (Ok (Moved k)) low h = tt
+    gained_all b (write v) (Err r) low h = tt
     gained_all b (read p) a low h = tt
-    gained_all b (step zero) Accepted low h = tt
-    gained_all b (step zero) (Moved k) low h = moving_all b (b.op 0) refl h
-    gained_all b (step zero) (Refused r) low h = tt
+    gained_all b (step zero) (Ok Accepted) low h = tt
+    gained_all b (step zero) (Ok (Moved k)) low h = moving_all b (b.op 0) refl h
+    gained_all b (step zero) (Err r) low h = tt
     gained_all b (step (suc i)) a low h = tt
     gained_all b (retire p) a low h = tt
 

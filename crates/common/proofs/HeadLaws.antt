@@ -1,6 +1,6 @@
 -- The test of a head is its meaning, and what a call does to it.
-use Prim.Native.Nat.{ℕ, ◌+◌, ◌≤◌, ◌<◌}
-use mathlib.Core.Path.{◌≡◌, refl, ap}
+use Prim.Native.Nat.{ℕ, ◌+◌, ◌≤◌}
+use mathlib.Core.Path.{◌≡◌, ap}
 use mathlib.Core.Bool.{Bool, true, false}
 use native.Mathlib.Omega.{arith}
 use lib.Dec.{leb, eqb}
@@ -59,14 +59,6 @@ module _ (need : ℕ) (h : Head) (count cells log : ℕ) where
     opens_is = e;
     room = f;
   }
-
-  -- A head with more rows used than a log has is out of range.
-  pub head_high : 4096 < h.used → head_ok need h count cells log ≡ false
-  head_high e = at (head_ok need h count cells log) refl
-    where
-      at : (b : Bool) → head_ok need h count cells log ≡ b → b ≡ false
-      at false q = refl
-      at true q = let k = head_in q in absurd (omega (arith, k.room, k.rows_high))
 
 -- A sub-step of an operation that was open; b tells whether it still is. Its end has a row of its own, and is one fewer open.
 pub head_steps : (h : Head) (a b : Bool) → h.used + h.opens ≤ h.rows → a ≡ true → one a ≤ h.opens

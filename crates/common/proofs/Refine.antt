@@ -1,4 +1,5 @@
 -- A register against its book: the relation, and each call.
+use Rattle.std.specs.Prelude.{Ok}
 use Prim.Native.Nat.{ℕ, suc, ◌+◌, ◌-◌, ◌≤◌, ◌<◌}
 use mathlib.Core.Path.{◌≡◌, refl, sym, subst, ap, ◌∙◌, fun_ext}
 use mathlib.Core.List.{List, [], ◌∷◌, ◌++◌}
@@ -14,7 +15,7 @@ use Rattle.words.proofs.Laws.Choice.{pick_ind, pick_two, pick_both, pick_yes, pi
 use Rattle.words.proofs.Laws.Counting.{count_same}
 use Rattle.words.proofs.Laws.Update.{upd_same, upd_other, upd_own}
 use Rattle.common.specs.Calls.{Call, write, read, step, retire}
-use Rattle.common.specs.declared.Answer.TheVariants.{Accepted, Moved}
+use Rattle.common.specs.declared.Done.TheVariants.{Accepted, Moved}
 use Rattle.common.specs.declared.Refusal.{Refusal}
 use Rattle.common.specs.declared.Refusal.TheVariants.{Range, Processor, Retired, Busy, Full, Idle, Spent}
 use Rattle.common.specs.declared.Head.{Head}
@@ -149,7 +150,7 @@ module _ {Stamp Cell : Type 0} (R : Rules) (B : Telling Stamp Cell) (WIs : ℕ �
 
         at : s.writer.active ≡ true → C (step_writer R s t l) (moves_write B n b (open_with v m cells))
         at a = record {
-          answer_is = ap (λ (j : ℕ). Moved (j + 1)) (S.moved_w n s.writer (b.stamp 0) v m cells K);
+          answer_is = ap (λ (j : ℕ). Ok (Moved (j + 1))) (S.moved_w n s.writer (b.stamp 0) v m cells K);
           rel =
               subst (λ (y : ℕ). Rel X L (step_writer R s t l).state q.table (step_writer R s t l).log (book 0 x.table (is_open x.op) (row_of 2 0 y) x.stamp x.op))
               (sym (S.write_value n b.table (b.stamp 0) v m cells))
@@ -185,7 +186,7 @@ module _ {Stamp Cell : Type 0} (R : Rules) (B : Telling Stamp Cell) (WIs : ℕ �
 
           at : r₀.active ≡ true → C (step_reader R s t l p) (moves_read B n b p (open_with v m cells))
           at a = record {
-            answer_is = ap (λ (j : ℕ). Moved (j + 1)) (S.moved_r n r₀ (b.stamp p) v m cells K);
+            answer_is = ap (λ (j : ℕ). Ok (Moved (j + 1))) (S.moved_r n r₀ (b.stamp p) v m cells K);
             rel =
                 subst (λ (k : List ℕ). Rel X L (step_reader R s t l p).state q.table k (book p x.table (is_open x.op) (row_of 4 p x.value) x.stamp x.op))
                 (sym (row_same q.reader.active (value_in q.reader.result) x.value (λ e. T.value_is (sym still ∙ e)) l (λ y. set l s.head.used (row_of 4 p y))))
@@ -230,7 +231,7 @@ module _ {Stamp Cell : Type 0} (R : Rules) (B : Telling Stamp Cell) (WIs : ℕ �
         (λ a. pick_both C _ _ _ _ _ _ room_is (λ h. may (R.may_write s.writer) refl a (leb-true _ _ h)) (λ _. same Full)))
       where
         accepted : Outcome
-        accepted = record { answer = Accepted; state = with_writer s (writer_begins s.writer v) (began s.head); table = t; log = set l s.head.used (row_of 1 0 v) }
+        accepted = record { answer = Ok Accepted; state = with_writer s (writer_begins s.writer v) (began s.head); table = t; log = set l s.head.used (row_of 1 0 v) }
 
         opens : s.head.used + s.head.opens + 2 ≤ s.head.rows → s.writer.active ≡ false → R.may_write s.writer ≡ true
             → Rel X L accepted.state t accepted.log (begun b 0 1 v).model

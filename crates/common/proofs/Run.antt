@@ -1,4 +1,5 @@
 -- Whole runs: from an accepted set-up, the calls and the book stay related.
+use Rattle.std.specs.Prelude.{Ok}
 use Prim.Native.Nat.{ℕ, zero, suc, ◌-◌, ◌^◌, ◌≤◌, ◌<◌}
 use mathlib.Core.Path.{◌≡◌, refl, sym, ap, ◌∙◌}
 use mathlib.Core.List.{List, [], ◌∷◌, ◌++◌}
@@ -11,7 +12,7 @@ use Rattle.words.proofs.Laws.Choice.{pick_ind, le_ind}
 use Rattle.words.proofs.Laws.Counting.{count_nowhere}
 use Rattle.common.specs.Answers.{number_of, never4}
 use Rattle.common.specs.Calls.{Call, write, read, step, retire}
-use Rattle.common.specs.declared.Answer.TheVariants.{Accepted}
+use Rattle.common.specs.declared.Done.TheVariants.{Accepted}
 use Rattle.common.specs.declared.Writer.{Writer}
 use Rattle.common.specs.declared.Reader.{Reader}
 use Rattle.common.specs.declared.State.{State}
@@ -128,7 +129,7 @@ module _ {Stamp Cell : Type 0} (R : Rules) (B : Telling Stamp Cell) (WIs : ℕ �
               at true = refl
               at false = refl
 
-    pub from_set_up : (n v fresh : ℕ) → fresh < 2 ^ 32 → (t l : List ℕ) (cs : List Call) → (set_up_of R n v fresh t l).answer ≡ Accepted
+    pub from_set_up : (n v fresh : ℕ) → fresh < 2 ^ 32 → (t l : List ℕ) (cs : List Call) → (set_up_of R n v fresh t l).answer ≡ Ok Accepted
         → FromSetUp n v fresh t l (set_up_of R n v fresh t l) cs
     from_set_up n v fresh low t l cs e =
         let F = (set_up_if R n v fresh t l).0 (ap number_of e) in
@@ -149,7 +150,7 @@ module _ {Stamp Cell : Type 0} (R : Rules) (B : Telling Stamp Cell) (WIs : ℕ �
         })
 
     -- "Set-up writes row 0 only", "The fresh state passes 4 with its table and log"
-    pub sets_up : (n v fresh : ℕ) (t l : List ℕ) → fresh < 2 ^ 32 → (set_up_of R n v fresh t l).answer ≡ Accepted → SetsUp R n t l (set_up_of R n v fresh t l)
+    pub sets_up : (n v fresh : ℕ) (t l : List ℕ) → fresh < 2 ^ 32 → (set_up_of R n v fresh t l).answer ≡ Ok Accepted → SetsUp R n t l (set_up_of R n v fresh t l)
     unfolding run_of
     sets_up n v fresh t l low e =
         let z = from_set_up n v fresh low t l [] e in

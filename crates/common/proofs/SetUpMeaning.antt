@@ -1,4 +1,5 @@
 -- The number that set-up gives means what document 01 says.
+use Rattle.std.specs.Prelude.{Ok}
 use Prim.Native.Nat.{ℕ}
 use native.Mathlib.Omega.{arith}
 use mathlib.Core.Path.{◌≡◌, refl, sym, ◌∙◌}
@@ -11,7 +12,7 @@ use borrow.Author.Tests.{leb-true, le-leb}
 use Rattle.words.proofs.Laws.Choice.{pick_ind, le_ind, never, left, right, both}
 use Rattle.common.specs.Answers.{number_of}
 use Rattle.common.specs.Rules.{Rules}
-use Rattle.common.specs.declared.Answer.TheVariants.{Accepted}
+use Rattle.common.specs.declared.Done.TheVariants.{Accepted}
 use Rattle.common.specs.SetUp.{Outcome, fresh_state, start_row, readers_fit, rows_fit, set_up_of}
 use Rattle.common.specs.SetUpMeaning.{FitReaders, FitRows, FitSetUp, SetUpSays, is_set_up, says_1, says_2, says_3}
 
@@ -56,7 +57,7 @@ module _ (R : Rules) (n v fresh : ℕ) (t l : List ℕ) where
 
   -- and then it leaves a fresh register.
   pub set_up_leaves : FitSetUp n (R.cells n) (length t) (length l) → set_up_of R n v fresh t l ≡ record {
-    answer = Accepted;
+    answer = Ok Accepted;
     state = fresh_state R.counted n fresh (length l);
     table = R.fresh_cells n v fresh ++ drop (R.cells n) t;
     log = set l 0 (start_row n v);

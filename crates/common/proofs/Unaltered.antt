@@ -1,4 +1,5 @@
 -- A refused call or set-up alters nothing; and every call is refused if the number of open operations is off.
+use Rattle.std.specs.Prelude.{Ok, Err}
 use Prim.Native.Nat.{ℕ, ◌-◌}
 use mathlib.Core.Path.{◌≡◌, refl, sym, ap, ◌∙◌}
 use mathlib.Core.Logic.{◌≢◌}
@@ -9,8 +10,8 @@ use lib.Dec.{eqb, leb}
 use Rattle.words.specs.Choice.{pick}
 use Rattle.words.proofs.Laws.Choice.{pick_ind, never}
 use Rattle.common.specs.Calls.{Call, write, read, step, retire}
-use Rattle.common.specs.declared.Answer.{Answer}
-use Rattle.common.specs.declared.Answer.TheVariants.{Accepted, Moved, Refused}
+use Rattle.common.specs.Answers.{Answer}
+use Rattle.common.specs.declared.Done.TheVariants.{Accepted, Moved}
 use Rattle.common.specs.declared.Refusal.{Refusal}
 use Rattle.common.specs.declared.Refusal.TheVariants.{Range}
 use Rattle.common.specs.declared.State.{State}
@@ -24,14 +25,14 @@ use Rattle.common.proofs.Asked.{as_processor_lem}
 use Rattle.common.proofs.Range.{test_range, no_state_lem}
 
 abbrev is_refused : Answer → Bool
-is_refused Accepted = false
-is_refused (Moved k) = false
-is_refused (Refused r) = true
+is_refused (Ok Accepted) = false
+is_refused (Ok (Moved k)) = false
+is_refused (Err r) = true
 
 module _ (R : Rules) (s : State) (t l : List ℕ) where
   -- what is to be shown of an outcome
   Keeps : Outcome → Type 0
-  Keeps o = (r : Refusal) → o.answer ≡ Refused r → Unaltered s t l o
+  Keeps o = (r : Refusal) → o.answer ≡ Err r → Unaltered s t l o
 
   refuses : (r : Refusal) → Keeps (refused r s t l)
   unfolding Keeps
@@ -71,7 +72,7 @@ module _ (R : Rules) (s : State) (t l : List ℕ) where
   retire_keeps p = is_in_range _ (asked 1 p _ (takes _ refl))
 
   -- "A no gives its number and alters nothing."
-  pub call_unaltered : (c : Call) (r : Refusal) → (call_of R s t l c).answer ≡ Refused r → Unaltered s t l (call_of R s t l c)
+  pub call_unaltered : (c : Call) (r : Refusal) → (call_of R s t l c).answer ≡ Err r → Unaltered s t l (call_of R s t l c)
   unfolding call_of Keeps
   call_unaltered (write v) = write_keeps v
   call_unaltered (read p) = read_keeps p
@@ -97,7 +98,7 @@ module _ (R : Rules) (s : State) (t l : List ℕ) where
 -- The same of a set-up, which returns no register's state.
 module _ (R : Rules) (n v fresh : ℕ) (t l : List ℕ) where
   KeepsAll : Outcome → Type 0
-  KeepsAll o = (r : Refusal) → o.answer ≡ Refused r → NotSetUp R t l o
+  KeepsAll o = (r : Refusal) → o.answer ≡ Err r → NotSetUp R t l o
 
   denies : (o : Outcome) → o.table ≡ t → o.log ≡ l → o.state ≡ no_state R.counted → KeepsAll o
   unfolding KeepsAll
@@ -108,7 +109,7 @@ module _ (R : Rules) (n v fresh : ℕ) (t l : List ℕ) where
     out_of_range = λ cells log. rw g (no_state_lem R R.counted cells log);
   }
 
-  pub set_up_unaltered : (r : Refusal) → (set_up_of R n v fresh t l).answer ≡ Refused r → NotSetUp R t l (set_up_of R n v fresh t l)
+  pub set_up_unaltered : (r : Refusal) → (set_up_of R n v fresh t l).answer ≡ Err r → NotSetUp R t l (set_up_of R n v fresh t l)
   unfolding set_up_of KeepsAll
   set_up_unaltered =
       pick_ind KeepsAll (readers_fit n) _ _

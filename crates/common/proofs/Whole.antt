@@ -1,4 +1,5 @@
 -- Demand 3, as far as it is the same for both registers.
+use Rattle.std.specs.Prelude.{Ok, Err}
 use Prim.Native.Nat.{ℕ, ◌+◌, ◌^◌, ◌≤◌, ◌<◌}
 use native.Mathlib.Omega.{arith}
 use mathlib.Core.Bool.{true, false}
@@ -13,7 +14,7 @@ use Rattle.history.specs.WellFormed.{well_formed}
 use Rattle.history.proofs.Theorems.{swept_ordered, swept_without_bands}
 use Rattle.common.specs.Calls.{Call, step, retire, CallBy}
 use Rattle.common.specs.Moves.{Moves}
-use Rattle.common.specs.declared.Answer.TheVariants.{Accepted, Refused}
+use Rattle.common.specs.declared.Done.TheVariants.{Accepted}
 use Rattle.common.specs.declared.Refusal.TheVariants.{Retired}
 use Rattle.common.specs.declared.Writer.{Writer}
 use Rattle.common.specs.declared.Reader.{Reader}
@@ -35,7 +36,7 @@ use Rattle.common.proofs.Stands.{call_stands}
 
 module _ {Stamp Cell : Type 0} (R : Rules) (B : Telling Stamp Cell) (WIs : ℕ → Writer → Stamp → Operation Cell → Type 0)
     (RIs : ℕ → Reader → Stamp → Operation Cell → Type 0) (W : Lawful R) (S : Simulates R B WIs RIs)
-    (n v fresh : ℕ) (low : fresh < 2 ^ 32) (t l : List ℕ) (cs : List Call) (e : (set_up_of R n v fresh t l).answer ≡ Accepted) where
+    (n v fresh : ℕ) (low : fresh < 2 ^ 32) (t l : List ℕ) (cs : List Call) (e : (set_up_of R n v fresh t l).answer ≡ Ok Accepted) where
   abbrev r : Ran
   r = ran_from R n v fresh t l cs
 
@@ -72,7 +73,7 @@ module _ {Stamp Cell : Type 0} (R : Rules) (B : Telling Stamp Cell) (WIs : ℕ �
   retired_are p h = start.runs.rel.retired_are p (omega (arith, n_is))
 
   -- A retired reader's call is refused.
-  out_13 : (p : ℕ) → 1 ≤ p → p ≤ n → b.retired p ≡ true → (c : Call) → CallBy p c → (next R n v fresh t l cs c).answer ≡ Refused Retired
+  out_13 : (p : ℕ) → 1 ≤ p → p ≤ n → b.retired p ≡ true → (c : Call) → CallBy p c → (next R n v fresh t l cs c).answer ≡ Err Retired
   out_13 p p1 pn gone c by =
       (call_rel R B WIs RIs W S _ _ r.state r.table r.log b start.runs.good start.runs.rel full c).answer_is
       ∙ out_told B r.state.head.n r.state.head.rows b p p1 (omega (arith, n_is)) gone c by

@@ -1,9 +1,9 @@
 -- The answers' numbers.
-use Rattle.std.specs.Prelude.{ℕ, Bool, true, not, ◌&&◌, List, [], ◌∷◌, eqb, get_or}
+use Rattle.std.specs.Prelude.{ℕ, Bool, true, not, ◌&&◌, List, [], ◌∷◌, eqb, get_or, Result, Ok, Err}
 use Rattle.common.specs.declared.Refusal.{Refusal}
 use Rattle.common.specs.declared.Refusal.TheVariants.{Readers, Cells, Rows, Range, Processor, Busy, Full, Idle, Retired, Spent}
-use Rattle.common.specs.declared.Answer.{Answer}
-use Rattle.common.specs.declared.Answer.TheVariants.{Accepted, Moved, Refused}
+use Rattle.common.specs.declared.Done.{Done}
+use Rattle.common.specs.declared.Done.TheVariants.{Accepted, Moved}
 
 -- "are there 1 to 16 readers (1)? At least n²+n cells (2)? Is the log 3 to 4,096 rows (3)?", "is the state in range (4 if not)",
 -- "Is the processor 0..n, for a read 1..n (5)? Begin: is it idle (6)? Are free rows at least open operations plus 2 (7)?
@@ -21,15 +21,19 @@ refusal_number Idle = 8
 refusal_number Retired = 13
 refusal_number Spent = 14
 
+-- A call's answer: what was done, or why it was refused.
+abbrev pub Answer : Type 0
+Answer = Result Done Refusal
+
 -- Document 01's number of an answer, 0 where it is no refusal, and the values that come with it.
 pub record Reply : Type 0 where
   pub number : ℕ
   pub values : List ℕ
 
 abbrev pub reply : Answer → Reply
-reply Accepted = record { number = 0; values = [] }
-reply (Moved k) = record { number = 0; values = k ∷ [] }
-reply (Refused r) = record { number = refusal_number r; values = [] }
+reply (Ok Accepted) = record { number = 0; values = [] }
+reply (Ok (Moved k)) = record { number = 0; values = k ∷ [] }
+reply (Err r) = record { number = refusal_number r; values = [] }
 
 -- "each call's refusal number, or that it has none": 0
 abbrev pub number_of : Answer → ℕ

@@ -2,13 +2,14 @@
 -- fresh stamp. It tells the rules a second time: what it keeps of an operation are the cells that it has read. How a sub-step goes, each
 -- register tells in words of its own (Telling); with the calls' definitions the book shares packing, places, calls and answers.
 use Rattle.std.specs.Prelude.{ℕ, suc, ◌+◌, List, [], ◌∷◌, ◌++◌, Bool, true, false, not, ◌&&◌, length, leb, eqb}
+use Rattle.std.specs.Prelude.{Ok, Err}
 use Rattle.words.specs.Choice.{pick}
 use Rattle.words.specs.Update.{upd}
 use Rattle.words.specs.Counting.{one, count}
 use Rattle.words.specs.Row.{row_of}
 use Rattle.common.specs.Calls.{Call, write, read, step, retire}
-use Rattle.common.specs.declared.Answer.{Answer}
-use Rattle.common.specs.declared.Answer.TheVariants.{Accepted, Moved, Refused}
+use Rattle.common.specs.Answers.{Answer}
+use Rattle.common.specs.declared.Done.TheVariants.{Accepted, Moved}
 use Rattle.common.specs.declared.Refusal.{Refusal}
 use Rattle.common.specs.declared.Refusal.TheVariants.{Processor, Retired, Busy, Full, Idle, Spent}
 
@@ -68,19 +69,13 @@ module _ {Stamp Cell : Type 0} where
 
   -- "A refused call changes nothing."
   abbrev pub declined : Refusal → Model Stamp Cell → Told Stamp Cell
-  declined r b = record { answer = Refused r; model = b }
+  declined r b = record { answer = Err r; model = b }
 
   -- "A begin opens its processor with no word moved and adds its row."
   abbrev pub begun : Model Stamp Cell → ℕ → ℕ → ℕ → Told Stamp Cell
   begun b p kind v = record {
-    answer = Accepted;
-    model = record {
-      table = b.table;
-      rows = b.rows ++ (row_of kind p v ∷ []);
-      stamp = b.stamp;
-      op = upd b.op p (open_with v 0 []);
-      retired = b.retired;
-    };
+    answer = Ok Accepted;
+    model = record b { rows = b.rows ++ (row_of kind p v ∷ []); op = upd b.op p (open_with v 0 []) };
   }
 
   -- question 5, (02) "and asks 13 in its place", and then x
@@ -106,13 +101,7 @@ module _ {Stamp Cell : Type 0} where
 
   -- (02) "Add a call that retires a reader": it is in the set, and nothing else changes
   abbrev pub withdrawn : Model Stamp Cell → ℕ → Model Stamp Cell
-  withdrawn b p = record {
-    table = b.table;
-    rows = b.rows;
-    stamp = b.stamp;
-    op = b.op;
-    retired = upd b.retired p true;
-  }
+  withdrawn b p = record b { retired = upd b.retired p true }
 
 module _ {Stamp Cell : Type 0} (B : Telling Stamp Cell) where
   -- "14, stamp 4,294,967,295 has been used, for a write's begin after question 7"
@@ -124,19 +113,19 @@ module _ {Stamp Cell : Type 0} (B : Telling Stamp Cell) where
   abbrev pub moves_write : ℕ → Model Stamp Cell → Operation Cell → Told Stamp Cell
   moves_write n b idle = declined Idle b
   moves_write n b (open_with v m cells) =
-      record { answer = Moved (m + 1); model = entered b 0 2 (B.write_turn n b.table (b.stamp 0) v m cells) }
+      record { answer = Ok (Moved (m + 1)); model = entered b 0 2 (B.write_turn n b.table (b.stamp 0) v m cells) }
 
   abbrev pub moves_read : ℕ → Model Stamp Cell → ℕ → Operation Cell → Told Stamp Cell
   moves_read n b p idle = declined Idle b
   moves_read n b p (open_with v m cells) =
-      record { answer = Moved (m + 1); model = entered b p 4 (B.read_turn n p b.table (b.stamp p) m cells) }
+      record { answer = Ok (Moved (m + 1)); model = entered b p 4 (B.read_turn n p b.table (b.stamp p) m cells) }
 
   -- "Questions 5 to 8 are asked of the book; in a list question 4 refuses nothing."; and 13 and 14
   unfoldable pub told : ℕ → ℕ → Model Stamp Cell → Call → Told Stamp Cell
   told n len b (write v) = begins n len b 0 (begins_write b v)
   told n len b (read p) = of_processor n b 1 p (begins n len b p (begun b p 3 0))
   told n len b (step p) = of_processor n b 0 p (pick (eqb p 0) (moves_write n b (b.op 0)) (moves_read n b p (b.op p)))
-  told n len b (retire p) = of_processor n b 1 p (record { answer = Accepted; model = withdrawn b p })
+  told n len b (retire p) = of_processor n b 1 p (record { answer = Ok Accepted; model = withdrawn b p })
 
   abbrev pub fresh_model : ℕ → ℕ → ℕ → Model Stamp Cell
   fresh_model n v fresh = record {

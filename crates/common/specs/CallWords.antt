@@ -2,8 +2,7 @@
 use Rattle.std.specs.Prelude.{ℕ, ◌+◌, ◌*◌, ◌^◌, Bool, ◌||◌, List, [], ◌∷◌, eqb}
 use Rattle.words.specs.Choice.{pick}
 use Rattle.words.specs.Bits.{low, field}
-use Rattle.common.specs.declared.Answer.{Answer}
-use Rattle.common.specs.Answers.{number_of, sub_step_of}
+use Rattle.common.specs.Answers.{Answer, number_of, sub_step_of}
 use Rattle.common.specs.Calls.{Call, write, read, step, retire}
 
 -- A call's word has its kind in the upper half, 1 begin a write, 2 begin a read, 3 a sub-step, 4 retire a reader, and its number in the

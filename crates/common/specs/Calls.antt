@@ -1,13 +1,7 @@
 -- The calls of a list.
 use Rattle.std.specs.Prelude.{ℕ, ◌^◌, ◌<◌, Bool, true, false, List, [], ◌∷◌}
-
--- "A list has any number of begins of a write, begins of a read and sub-steps, in any order, with any reading and any processor
--- number." (02) "Demand 3's lists hold retirements too"
-pub data Call : Type 0 where
-  write : ℕ → Call
-  read : ℕ → Call
-  step : ℕ → Call
-  retire : ℕ → Call
+pub use Rattle.common.specs.declared.calls.Call.{Call}
+pub use Rattle.common.specs.declared.calls.Call.TheVariants.{Write as write, Read as read, Step as step, Retire as retire}
 
 -- a begin of a write; of a read; a retirement
 abbrev pub is_write : Call → Bool

@@ -44,7 +44,7 @@ has_room h = leb (h.used + h.opens + 2) h.rows
 
 -- the head with other rows used and another number of open operations
 abbrev pub head_with : Head → ℕ → ℕ → Head
-head_with h used opens = record { counted = h.counted; opens = opens; n = h.n; rows = h.rows; used = used }
+head_with h used opens = record h { opens = opens; used = used }
 
 -- (02) "Begins, ends and retirements maintain it." "A begin call adds its row"
 abbrev pub began : Head → Head

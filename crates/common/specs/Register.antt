@@ -1,10 +1,10 @@
 -- Begins, sub-steps and retirements of a register with the rules R, with their questions in document 01's order.
-use Rattle.std.specs.Prelude.{ℕ, ◌+◌, ◌-◌, List, [], ◌∷◌, length, set, eqb}
+use Rattle.std.specs.Prelude.{ℕ, ◌+◌, ◌-◌, List, [], ◌∷◌, length, set, eqb, Ok}
 use Rattle.words.specs.Choice.{pick}
 use Rattle.words.specs.Row.{row_of}
 use Rattle.common.specs.declared.State.{State}
-use Rattle.common.specs.declared.Answer.{Answer}
-use Rattle.common.specs.declared.Answer.TheVariants.{Accepted, Moved}
+use Rattle.common.specs.Answers.{Answer}
+use Rattle.common.specs.declared.Done.TheVariants.{Accepted, Moved}
 use Rattle.common.specs.declared.Refusal.TheVariants.{Range, Processor, Retired, Busy, Full, Idle, Spent}
 use Rattle.common.specs.Calls.{Call, write, read, step, retire}
 use Rattle.common.specs.Head.{is_processor, has_room, began, stepped}
@@ -23,7 +23,7 @@ open_read s t l p =
     pick (reader_at s (p - 1)).active (refused Busy s t l)
     (pick (has_room s.head)
     (record {
-      answer = Accepted;
+      answer = Ok Accepted;
       state = with_reader s (p - 1) (reader_begins (reader_at s (p - 1))) (began s.head);
       table = t;
       log = set l s.head.used (row_of 3 p 0);
@@ -32,7 +32,7 @@ open_read s t l p =
 
 -- reader p is retired: it is in the set, its operation counts as open no longer, and nothing else changes
 abbrev pub retiring : State → List ℕ → List ℕ → ℕ → Outcome
-retiring s t l p = record { answer = Accepted; state = with_retired s p; table = t; log = l }
+retiring s t l p = record { answer = Ok Accepted; state = with_retired s p; table = t; log = l }
 
 module _ (R : Rules) where
   -- question 4, and then o
@@ -48,7 +48,7 @@ module _ (R : Rules) where
       (pick (has_room s.head)
       (pick (R.may_write s.writer)
       (record {
-        answer = Accepted;
+        answer = Ok Accepted;
         state = with_writer s (writer_begins s.writer v) (began s.head);
         table = t;
         log = set l s.head.used (row_of 1 0 v);
@@ -64,7 +64,7 @@ module _ (R : Rules) where
   step_writer s t l =
       let q = R.write_step s.head.n s.writer t in
       record {
-        answer = Moved (s.writer.moved + 1);
+        answer = Ok (Moved (s.writer.moved + 1));
         state = with_writer s q.writer (stepped s.head q.writer.active);
         table = q.table;
         log = pick q.writer.active l (set l s.head.used (row_of 2 0 0));
@@ -74,7 +74,7 @@ module _ (R : Rules) where
   step_reader s t l p =
       let q = R.read_step s.head.n p (reader_at s (p - 1)) t in
       record {
-        answer = Moved ((reader_at s (p - 1)).moved + 1);
+        answer = Ok (Moved ((reader_at s (p - 1)).moved + 1));
         state = with_reader s (p - 1) q.reader (stepped s.head q.reader.active);
         table = q.table;
         log = pick q.reader.active l (set l s.head.used (row_of 4 p (value_in q.reader.result)));

@@ -1,13 +1,13 @@
 -- Set-up, and what a call gives and leaves.
-use Rattle.std.specs.Prelude.{ℕ, List, ◌++◌, Bool, false, ◌&&◌, length, set, drop, replicate, leb}
+use Rattle.std.specs.Prelude.{ℕ, List, ◌++◌, Bool, false, ◌&&◌, length, set, drop, replicate, leb, Ok, Err}
 use Rattle.words.specs.Choice.{pick}
 use Rattle.words.specs.Stamp.{none}
 use Rattle.words.specs.Row.{row_of}
 use Rattle.common.specs.declared.Writer.{Writer}
 use Rattle.common.specs.declared.Reader.{Reader}
 use Rattle.common.specs.declared.State.{State}
-use Rattle.common.specs.declared.Answer.{Answer}
-use Rattle.common.specs.declared.Answer.TheVariants.{Accepted, Refused}
+use Rattle.common.specs.Answers.{Answer}
+use Rattle.common.specs.declared.Done.TheVariants.{Accepted}
 use Rattle.common.specs.declared.Refusal.{Refusal}
 use Rattle.common.specs.declared.Refusal.TheVariants.{Readers, Cells, Rows}
 use Rattle.common.specs.Rules.{Rules}
@@ -20,7 +20,7 @@ pub record Outcome : Type 0 where
 
 -- "A no gives its number and alters nothing."
 abbrev pub refused : Refusal → State → List ℕ → List ℕ → Outcome
-refused r s t l = record { answer = Refused r; state = s; table = t; log = l }
+refused r s t l = record { answer = Err r; state = s; table = t; log = l }
 
 -- "the writer's stamp, at first (0,1)"; of the counted register "The fresh stamp is handed over at set-up"
 abbrev pub fresh_writer : ℕ → Writer
@@ -78,7 +78,7 @@ set_up_of R n v fresh t l =
     (pick (leb (R.cells n) (length t))
     (pick (rows_fit (length l))
     (record {
-      answer = Accepted;
+      answer = Ok Accepted;
       state = fresh_state R.counted n fresh (length l);
       table = R.fresh_cells n v fresh ++ drop (R.cells n) t;
       log = set l 0 (start_row n v);

@@ -36,17 +36,7 @@ still_open retired active = not retired && active
 
 -- a reader as these two questions see it
 abbrev pub as_counted : Reader → Reader
-as_counted r = record {
-  retired = r.retired;
-  active = still_open r.retired r.active;
-  second = r.second;
-  moved = r.moved;
-  stamp = r.stamp;
-  look = r.look;
-  agree = r.agree;
-  found = r.found;
-  result = r.result;
-}
+as_counted r = record r { active = still_open r.retired r.active }
 
 -- the open operations
 abbrev pub open_readers : State → ℕ
@@ -57,50 +47,22 @@ open_in s = one s.writer.active + open_readers s
 
 -- the state with another head, and another writer or reader i + 1
 abbrev pub with_writer : State → Writer → Head → State
-with_writer s w h = record { head = h; writer = w; readers = s.readers }
+with_writer s w h = record s { head = h; writer = w }
 
 abbrev pub with_reader : State → ℕ → Reader → Head → State
-with_reader s i r h = record { head = h; writer = s.writer; readers = set s.readers i r }
+with_reader s i r h = record s { head = h; readers = set s.readers i r }
 
 -- "A begin opens its processor with no word moved": a write of v, that has read no cell
 abbrev pub writer_begins : Writer → ℕ → Writer
-writer_begins w v = record {
-  active = true;
-  moved = 0;
-  value = v;
-  excluded = 0;
-  ticket = w.ticket;
-  stamp = w.stamp;
-  count = w.count;
-}
+writer_begins w v = record w { active = true; moved = 0; value = v; excluded = 0 }
 
 -- a read, in its first attempt, that has found nothing
 abbrev pub reader_begins : Reader → Reader
-reader_begins r = record {
-  retired = r.retired;
-  active = true;
-  second = false;
-  moved = 0;
-  stamp = r.stamp;
-  look = r.look;
-  agree = r.agree;
-  found = r.found;
-  result = 0;
-}
+reader_begins r = record r { active = true; second = false; moved = 0; result = 0 }
 
 -- (02) "Add a call that retires a reader, for good, at any sub-step": nothing else of it changes
 abbrev pub retires : Reader → Reader
-retires r = record {
-  retired = true;
-  active = r.active;
-  second = r.second;
-  moved = r.moved;
-  stamp = r.stamp;
-  look = r.look;
-  agree = r.agree;
-  found = r.found;
-  result = r.result;
-}
+retires r = record r { retired = true }
 
 -- the state with reader p retired: its operation counts as open no longer
 abbrev pub with_retired : State → ℕ → State

@@ -1,13 +1,12 @@
 -- Demand 3, as far as it is the same for both registers: a list of calls against the book. Every list is covered, so what is said of the
 -- call that follows a list is said of every call of every list.
-use Rattle.std.specs.Prelude.{ℕ, ◌+◌, ◌≤◌, ◌≡◌, Bool, true, false, List, T, length, take, drop}
+use Rattle.std.specs.Prelude.{ℕ, ◌+◌, ◌≤◌, ◌≡◌, Bool, true, false, List, T, length, take, drop, Err}
 use Rattle.words.specs.Counting.{one}
 use Rattle.history.specs.WellFormed.{well_formed}
 use Rattle.history.specs.Bands.{NoBands}
 use Rattle.history.specs.Linearization.{Orders}
 use Rattle.common.specs.Answers.{never4}
 use Rattle.common.specs.Calls.{Call, step, retire, CallBy}
-use Rattle.common.specs.declared.Answer.TheVariants.{Refused}
 use Rattle.common.specs.declared.Refusal.TheVariants.{Retired}
 use Rattle.common.specs.State.{is_retired, open_in}
 use Rattle.common.specs.Rules.{Rules, state_ok}
@@ -38,7 +37,7 @@ module _ {Stamp Cell : Type 0} (R : Rules) (B : Telling Stamp Cell) (n v fresh :
   -- reader p, if it is retired behind the list, whatever call follows
   pub record Out (p : ℕ) : Type 0 where
     -- (02) "13, the reader is retired, for its begin, step or retirement"
-    pub thirteen : (c : Call) → CallBy p c → (next R n v fresh t l cs c).answer ≡ Refused Retired
+    pub thirteen : (c : Call) → CallBy p c → (next R n v fresh t l cs c).answer ≡ Err Retired
     -- (02) "Add a call that retires a reader, for good"
     pub for_good : (c : Call) → is_retired (next R n v fresh t l cs c).state p ≡ true
 

@@ -3,13 +3,14 @@
 
 use words::stamp::Stamp;
 
-pub mod numbers; // answers and calls as words
+pub mod numbers; // answers as words
+pub mod calls; // calls, and calls in words
 pub mod limits; // question 4 of a state's head, and questions 5 and 7
 pub mod rows; // rows of the log
 pub mod others; // the other readers
 
 // The questions that are answered no: document 01's 1 to 8, 13 of a retired reader, and 14 of the counted register.
-#[derive(Clone, Copy)]
+#[derive(Clone, Copy, Debug, PartialEq, Eq)]
 pub enum Refusal {
     Readers,
     Cells,
@@ -23,18 +24,18 @@ pub enum Refusal {
     Spent,
 }
 
-// A call's answer: set up, begun or retired; the number of the sub-step made; or a refusal.
-#[derive(Clone, Copy)]
-pub enum Answer {
+// What a call that is not refused has done: set up, begun or retired; or made a sub-step, of this number. A call's answer is a
+// Result<Done, Refusal>.
+#[derive(Clone, Copy, Debug, PartialEq, Eq)]
+pub enum Done {
     Accepted,
     Moved(u8),
-    Refused(Refusal),
 }
 
 // The head of a state: whether it is the counted register's, the number of open operations, those of retired readers left out, the number
 // of readers, the log's length and its used rows. The number of open operations is second since there it makes the state no larger.
 #[repr(C)]
-#[derive(Clone, Copy)]
+#[derive(Clone, Copy, Debug, PartialEq, Eq)]
 pub struct Head {
     pub counted: bool,
     pub opens: u8,
@@ -47,7 +48,7 @@ pub struct Head {
 // beside which an open write has the tickets excluded by the cells read so far and, once it is taken, the new ticket; of the counted
 // register a count.
 #[repr(C)]
-#[derive(Clone, Copy)]
+#[derive(Clone, Copy, Debug, PartialEq, Eq)]
 pub struct Writer {
     pub active: bool,
     pub moved: u8,
@@ -63,7 +64,7 @@ pub struct Writer {
 // same stamp, and whether another reader's cell was found, which is then the result, and at the end that of the value and stamp to
 // store.
 #[repr(C)]
-#[derive(Clone, Copy)]
+#[derive(Clone, Copy, Debug, PartialEq, Eq)]
 pub struct Reader {
     pub retired: bool,
     pub active: bool,
@@ -78,7 +79,7 @@ pub struct Reader {
 
 // The state of either register. Of the readers the first n count.
 #[repr(C)]
-#[derive(Clone, Copy)]
+#[derive(Clone, Copy, Debug, PartialEq, Eq)]
 pub struct State {
     pub head: Head,
     pub writer: Writer,

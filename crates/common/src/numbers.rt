@@ -1,43 +1,37 @@
-// Answers and calls as words.
+// Answers as words.
 ghost use Rattle.std.specs.Prelude.{◌≡◌, ◌≤◌};
 ghost use Rattle.common.specs.Answers.{refusal_number};
-ghost use Rattle.common.specs.CallWords.{answer_word, is_call};
+ghost use Rattle.common.specs.CallWords.{answer_word};
 
-use super::{Answer, Refusal};
+use super::{Done, Refusal};
 
 // Document 01's number of a refusal.
-pub fn refusal_number(r: Refusal) -> u64
-    ensures { (result ≡ refusal_number r) × (result ≤ 14) }
-{
-    match r {
-        Refusal::Readers => 1,
-        Refusal::Cells => 2,
-        Refusal::Rows => 3,
-        Refusal::Range => 4,
-        Refusal::Processor => 5,
-        Refusal::Busy => 6,
-        Refusal::Full => 7,
-        Refusal::Idle => 8,
-        Refusal::Retired => 13,
-        Refusal::Spent => 14,
+impl From<Refusal> for u64 {
+    ghost from_gives = { λ r number. (number ≡ refusal_number r) × (number ≤ 14) };
+
+    fn from(r: Refusal) -> u64 {
+        match r {
+            Refusal::Readers => 1,
+            Refusal::Cells => 2,
+            Refusal::Rows => 3,
+            Refusal::Range => 4,
+            Refusal::Processor => 5,
+            Refusal::Busy => 6,
+            Refusal::Full => 7,
+            Refusal::Idle => 8,
+            Refusal::Retired => 13,
+            Refusal::Spent => 14,
+        }
     }
 }
 
-// An answer's word.
-pub fn answer_word(a: Answer) -> u64
+// An answer's word. A function, since neither Result nor u64 is a type of this crate.
+pub fn answer_word(a: Result<Done, Refusal>) -> u64
     ensures { result ≡ answer_word a }
 {
     match a {
-        Answer::Accepted => 0,
-        Answer::Moved(k) => k as u64,
-        Answer::Refused(r) => refusal_number(r) * 4294967296,
+        Ok(Done::Accepted) => 0,
+        Ok(Done::Moved(k)) => k as u64,
+        Err(r) => u64::from(r) * 4294967296,
     }
-}
-
-// Whether a word is a call's.
-pub fn is_call(word: u64) -> bool
-    ensures { result ≡ is_call word }
-{
-    let kind = word / 4294967296 % 4294967296;
-    (kind == 1) | ((kind == 2) | ((kind == 3) | (kind == 4)))
 }

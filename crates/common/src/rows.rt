@@ -8,9 +8,9 @@ use words::row::Row;
 pub fn row_of(kind: u8, processor: u8, value: u32) -> u64
     ensures { result ≡ row_of kind processor value }
 {
-    words::row::pack(Row {
-        kind: kind,
-        processor: processor,
-        value: value,
+    u64::from(Row {
+        kind,
+        processor,
+        value,
     })
 }

@@ -1,4 +1,5 @@
 -- The call that follows a list: a sub-step's number, when the operation ends, and who is told that the stamps are spent.
+use Rattle.std.specs.Prelude.{Err}
 use Prim.Native.Nat.{ℕ, ◌+◌, ◌-◌, ◌*◌, ◌≤◌}
 use mathlib.Core.Path.{◌≡◌, refl, sym, subst, ap, ◌∙◌}
 use mathlib.Core.List.{List}
@@ -9,11 +10,10 @@ use lib.Dec.{eqb}
 use borrow.Author.Tests.{lt-ltb, le-ltb}
 use Rattle.words.proofs.Laws.Choice.{pick_ind, lt_ind, le_ind, eq_ind, never}
 use Rattle.words.proofs.Laws.Update.{upd_same}
-use Rattle.common.specs.Calls.{Call, write, read, step, retire}
+use Rattle.common.specs.declared.calls.Call.{Call}
+use Rattle.common.specs.declared.calls.Call.TheVariants.{Write as write, Read as read, Step as step, Retire as retire}
 use Rattle.common.specs.Moves.{Moves}
-use Rattle.common.specs.Answers.{number_of}
-use Rattle.common.specs.declared.Answer.{Answer}
-use Rattle.common.specs.declared.Answer.TheVariants.{Refused}
+use Rattle.common.specs.Answers.{Answer, number_of}
 use Rattle.common.specs.declared.Refusal.TheVariants.{Spent}
 use Rattle.common.specs.declared.State.{State}
 use Rattle.common.specs.State.{reader_at}
@@ -29,7 +29,7 @@ use Rattle.counted.specs.State.{last_stamp}
 use Rattle.counted.specs.Rules.{counted_rules}
 use Rattle.counted.specs.Steps.{write_steps, read_steps}
 use Rattle.counted.specs.Reference.{Operation, Model, Turn, write_turn, read_turn, Told, book}
-use Rattle.counted.specs.Whole.{is_write}
+use Rattle.common.specs.Calls.{is_write}
 use Rattle.counted.proofs.Range.{writer_in, reader_in}
 use Rattle.counted.proofs.TurnRel.{WRel, WriterRel, WIs, RRel, ReaderRel, RIs, simulates}
 use Rattle.counted.proofs.Laws.{lawful}
@@ -77,10 +77,10 @@ module _ (X L : List ℕ) (s : State) (t l : List ℕ) (b : Model) (g : Good cou
 
   -- Only a write's begin is refused 14, and only if the last stamp has been used.
   abbrev Told14 : Call → Told → Type 0
-  Told14 c x = x.answer ≡ Refused Spent → (is_write c ≡ true) × (b.stamp 0 ≡ last_stamp)
+  Told14 c x = x.answer ≡ Err Spent → (is_write c ≡ true) × (b.stamp 0 ≡ last_stamp)
 
   -- an answer with another number
-  not_14 : {A : Type 0} (a : Answer) → eqb (number_of a) 14 ≡ false → a ≡ Refused Spent → A
+  not_14 : {A : Type 0} (a : Answer) → eqb (number_of a) 14 ≡ false → a ≡ Err Spent → A
   not_14 a h e = never (sym (ap (λ (x : Answer). eqb (number_of x) 14) e) ∙ h)
 
   begins_14 : (c : Call) (p : ℕ) (x : Told) → Told14 c x → Told14 c (begins n s.head.rows b p x)
@@ -105,5 +105,5 @@ module _ (X L : List ℕ) (s : State) (t l : List ℕ) (b : Model) (g : Good cou
       at_r (open_with v m cells) = not_14 _ refl
   told_14 (retire p) = of_14 (retire p) 1 p _ (not_14 _ refl)
 
-  pub spent_only : (c : Call) → (call_of counted_rules s t l c).answer ≡ Refused Spent → (is_write c ≡ true) × (b.stamp 0 ≡ last_stamp)
+  pub spent_only : (c : Call) → (call_of counted_rules s t l c).answer ≡ Err Spent → (is_write c ≡ true) × (b.stamp 0 ≡ last_stamp)
   spent_only c e = told_14 c (sym (call_rel counted_rules book WIs RIs lawful simulates X L s t l b g A full c).answer_is ∙ e)

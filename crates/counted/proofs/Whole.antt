@@ -1,11 +1,13 @@
 -- Demand 3 for the counted register: from every accepted set-up, for every list of calls.
+use Rattle.std.specs.Prelude.{Ok}
 use Prim.Native.Nat.{ℕ, ◌-◌, ◌*◌, ◌^◌, ◌<◌}
 use mathlib.Core.Path.{◌≡◌}
 use mathlib.Core.List.{List}
 use native.Mathlib.Omega.{arith}
 use lib.ListN.{length}
-use Rattle.common.specs.Calls.{Call, LowCalls}
-use Rattle.common.specs.declared.Answer.TheVariants.{Accepted}
+use Rattle.common.specs.Calls.{LowCalls}
+use Rattle.common.specs.declared.calls.Call.{Call}
+use Rattle.common.specs.declared.Done.TheVariants.{Accepted}
 use Rattle.common.specs.SetUp.{set_up_of}
 use Rattle.common.specs.Register.{Ran, ran_from}
 use Rattle.common.specs.Whole.{model_of}
@@ -20,7 +22,7 @@ use Rattle.counted.proofs.TurnRel.{WIs, RIs, simulates}
 use Rattle.counted.proofs.Counts.{write_moves, next_stamp, read_moves, spent_only}
 use Rattle.counted.proofs.Atomic.Runs.{model_swept, model_meets}
 
-module _ (n v fresh : ℕ) (t l : List ℕ) (cs : List Call) (fresh-low : fresh < 2 ^ 32) (e : (set_up_of counted_rules n v fresh t l).answer ≡ Accepted) where
+module _ (n v fresh : ℕ) (t l : List ℕ) (cs : List Call) (fresh-low : fresh < 2 ^ 32) (e : (set_up_of counted_rules n v fresh t l).answer ≡ Ok Accepted) where
   abbrev r : Ran
   r = ran_from counted_rules n v fresh t l cs
 

@@ -18,13 +18,9 @@ read_steps n = 2 * n - 1
 -- "A write adds 1 to the stamp": each of its sub-steps stores to the next reader
 unfoldable pub write_step : ℕ → Writer → List ℕ → WriteStep
 write_step n w t = record {
-  writer = record {
+  writer = record w {
     active = ltb (w.moved + 1) (write_steps n);
     moved = w.moved + 1;
-    value = w.value;
-    excluded = w.excluded;
-    ticket = w.ticket;
-    stamp = w.stamp;
     count = pick (ltb (w.moved + 1) (write_steps n)) w.count (w.count + 1);
   };
   table = store n t 0 (w.moved + 1) (record { value = w.value; stamp = w.count + 1 });
@@ -39,17 +35,7 @@ larger a b = pick (ltb (stamp_in a) (stamp_in b)) b a
 
 -- a word more moved, and the result so far
 abbrev pub read_on : ℕ → Reader → ℕ → Reader
-read_on n r result = record {
-  retired = r.retired;
-  active = ltb (r.moved + 1) (read_steps n);
-  second = r.second;
-  moved = r.moved + 1;
-  stamp = r.stamp;
-  look = r.look;
-  agree = r.agree;
-  found = r.found;
-  result = result;
-}
+read_on n r result = record r { active = ltb (r.moved + 1) (read_steps n); moved = r.moved + 1; result = result }
 
 -- "A read looks at the other readers in rising order, then at the writer, takes the largest stamp (the writer's if equal, else the lowest
 -- reader), stores it to the others"

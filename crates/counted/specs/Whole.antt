@@ -1,25 +1,20 @@
 -- Demand 3 for lists of the counted register's calls. Every list is covered, so what is said here of the call that follows a list is said
 -- of every call of every list.
-use Rattle.std.specs.Prelude.{ℕ, ◌+◌, ◌-◌, ◌*◌, ◌≤◌, ◌≡◌, ◌⊎◌, Bool, true, false, List, [], ◌∷◌, ◌++◌}
-use Rattle.common.specs.Calls.{Call, write, read, step, retire}
+use Rattle.std.specs.Prelude.{ℕ, ◌+◌, ◌-◌, ◌*◌, ◌≤◌, ◌≡◌, ◌⊎◌, true, false, List, [], ◌∷◌, ◌++◌, Err}
+use Rattle.common.specs.declared.calls.Call.{Call}
+use Rattle.common.specs.declared.calls.Call.TheVariants.{Step as step}
+use Rattle.common.specs.Calls.{is_write}
 use Rattle.common.specs.Moves.{Moves}
 use Rattle.common.specs.Effects.{Stand}
 use Rattle.common.specs.Register.{ran_from}
 use Rattle.common.specs.Book.{open_with}
 use Rattle.common.specs.Whole.{model_of, still, next, AsBook}
-use Rattle.common.specs.declared.Answer.TheVariants.{Refused}
 use Rattle.common.specs.declared.Refusal.TheVariants.{Spent}
 use Rattle.counted.specs.declared.Cell.{Cell}
 use Rattle.counted.specs.Table.{index, Link, view}
 use Rattle.counted.specs.State.{last_stamp}
 use Rattle.counted.specs.Rules.{counted_rules}
 use Rattle.counted.specs.Reference.{Model, nth, at_writer, top_of, looks_at, book}
-
-abbrev pub is_write : Call → Bool
-is_write (write v) = true
-is_write (read p) = false
-is_write (step p) = false
-is_write (retire p) = false
 
 module _ (n v fresh : ℕ) (t l : List ℕ) (cs : List Call) where
   abbrev model : Model
@@ -43,7 +38,7 @@ module _ (n v fresh : ℕ) (t l : List ℕ) (cs : List Call) where
     pub stamp_low : model.stamp 0 ≤ last_stamp
     pub next_stamp : (u m : ℕ) (cells : List Cell) → model.op 0 ≡ open_with u m cells → model.stamp 0 + 1 ≤ last_stamp
     -- "A reader's begins and steps go on after the stamps are spent": 14 is for a write's begin, and only then
-    pub spent : (c : Call) → (next counted_rules n v fresh t l cs c).answer ≡ Refused Spent → (is_write c ≡ true) × (model.stamp 0 ≡ last_stamp)
+    pub spent : (c : Call) → (next counted_rules n v fresh t l cs c).answer ≡ Err Spent → (is_write c ≡ true) × (model.stamp 0 ≡ last_stamp)
     -- "The log and retirement are as for the first": "Its cells remain just as they stand", whatever call follows
     pub retired_cells : (p : ℕ) → p ≤ n → model.retired p ≡ true → (c : Call)
         → Stand (index n) (Link n) p (ran_from counted_rules n v fresh t l cs).table (next counted_rules n v fresh t l cs c).table

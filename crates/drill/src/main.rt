@@ -2,35 +2,31 @@
 // inputs: see the crate `inputs`.
 #![tactic(auto)]
 
-ghost use Rattle.std.specs.Prelude.{◌≡◌, length};
+ghost use Rattle.std.specs.Prelude.{refl};
+ghost use Rattle.inputs.proofs.Fits.{fits};
+ghost use Rattle.printing.specs.Drill.{drill_print};
+ghost use Rattle.printing.proofs.DrillShort.{drill_short};
 
 use drills::print::drill_print;
+use inputs::{Prints, TEXT};
 use std::io;
 
-// Room for every print.
-fn print_bytes() -> [u8; 2097152]
-    ensures { 2097152 ≡ length result }
-{
-    [0; 2097152]
-}
+struct Drill;
 
-// The print of input k. Of an input that is longer than 65,536 bytes one more is read.
-fn print_input(rt: &HostRuntime, k: usize) -> io::Result<()> {
-    let mut bytes = inputs::text_bytes();
-    let input = inputs::read(rt, k, &mut bytes);
-    if input.found {
-        let count = input.count;
-        let mut out = print_bytes();
-        let n = drill_print(&bytes[..count], &mut out);
-        rt.write_all(&out[..n])?;
+impl Prints<TEXT, 2097152> for Drill {
+    ghost said = { drill_print };
+
+    fn print(bytes: &[u8], out: &mut [u8]) -> usize {
+        drill_print(bytes, out)
     }
-    Ok(())
+
+    ghost short = { drill_short };
+
+    ghost room_fits = { fits 65537 refl };
+
+    ghost size_fits = { fits 2097152 refl };
 }
 
 fn main(rt: HostRuntime) -> io::Result<()> {
-    let end = inputs::end(&rt);
-    for k in 1..end {
-        print_input(&rt, k)?;
-    }
-    Ok(())
+    Drill::print_each(&rt)
 }

@@ -12,6 +12,7 @@ use Rattle.schedules.proofs.Each.{turns_length}
 use Rattle.schedules.proofs.Meaning.{all_schedules}
 use Rattle.schedules.proofs.Numbers.{turns_back, listed_short, listed_few}
 use Rattle.lines.specs.Lines.{refused_line, Puts}
+use Rattle.lines.specs.Adds.{Adds, Sink}
 use Rattle.lines.proofs.Puts.{whole}
 use Rattle.printing.specs.Drill.{drill_line, drill_lines}
 use Rattle.drills.specs.Words.{number_line}
@@ -34,15 +35,15 @@ module _ (n start v : ℕ) where
     abbrev places : List ℕ
     places = replicate 12870 0
 
-    pub drill_is : {l x y : List ℕ} {e r : ℕ} → readers_fit n ≡ true → a + b ≤ 16 → Puts (listed a b) 0 places y e
-        → Puts (flat_map (number_line n start v (a + b)) (take e y)) 0 l x r
-        → Puts (drill_lines n start v a b) 0 l x r
+    pub drill_is : {y : List ℕ} {e : ℕ} {old new : Sink} → readers_fit n ≡ true → a + b ≤ 16 → Puts (listed a b) 0 places y e
+        → Adds (flat_map (number_line n start v (a + b)) (take e y)) old new
+        → Adds (drill_lines n start v a b) old new
     unfolding drill_lines
-    drill_is {l} {x} {r = r} fit few P Q =
+    drill_is {old = old} {new = new} fit few P Q =
         let e = whole P (omega (arith, listed_few a b few, length-replicate {A = ℕ} 12870 0)) ∙ listed_short a b few in
         rw fit
-        (subst (λ (t : List ℕ). Puts t 0 l x r) (ap (flat_map (number_line n start v (a + b))) e ∙ lines_are (a + b) (schedules a b) turn_count) Q)
+        (subst (λ (t : List ℕ). Adds t old new) (ap (flat_map (number_line n start v (a + b))) e ∙ lines_are (a + b) (schedules a b) turn_count) Q)
 
-    pub no_register : {l x : List ℕ} {r : ℕ} → readers_fit n ≡ false → Puts (refused_line 1) 0 l x r → Puts (drill_lines n start v a b) 0 l x r
+    pub no_register : {old new : Sink} → readers_fit n ≡ false → Adds (refused_line 1) old new → Adds (drill_lines n start v a b) old new
     unfolding drill_lines
     no_register fit P = rw fit P

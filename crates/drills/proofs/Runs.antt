@@ -6,8 +6,9 @@ use mathlib.Core.Bool.{true}
 use mathlib.Core.List.{List, [], ◌∷◌, ◌++◌, map}
 use lib.ListN.{length, take, drop, set, replicate, length-map, length-take}
 use lib.Seq.{sets, sets-eq, take_at, take-nil}
-use Rattle.common.specs.declared.Answer.{Answer}
-use Rattle.common.specs.Calls.{Call, write, read}
+use Rattle.common.specs.Answers.{Answer}
+use Rattle.common.specs.declared.calls.Call.{Call}
+use Rattle.common.specs.declared.calls.Call.TheVariants.{Write as write, Read as read}
 use Rattle.common.specs.CallWords.{kind_of, calls_in, answer_word}
 use Rattle.common.specs.SetUp.{readers_fit, set_up_of}
 use Rattle.common.specs.Register.{Ran, run_of}
@@ -15,8 +16,8 @@ use Rattle.protocol.specs.Rules.{ticket_rules}
 use Rattle.lists.specs.Run.{MadeCalls, run_words_of}
 use Rattle.schedules.specs.Schedules.{Turn, w, r}
 use Rattle.schedules.specs.Numbers.{turns_of}
-use Rattle.lines.specs.Lines.{Puts}
-use Rattle.lines.proofs.Puts.{behind}
+use Rattle.lines.specs.Adds.{Adds, Sink}
+use Rattle.lines.proofs.Adds.{then_adds}
 use Rattle.printing.specs.Verdict.{verdict_line}
 use Rattle.printing.specs.Print.{lent_cells}
 use Rattle.printing.specs.Drill.{turn_call, drill_calls, drill_rows, drill_run, turn_letters, drill_line}
@@ -125,13 +126,13 @@ module _ (n start v k x : ℕ) (fit : readers_fit n ≡ true) (low : v < 2 ^ 32)
       ∙ ap (word_letters (map turn_word s)) (behind_begins k m.places answers f)
       ∙ letters_are s (drop 2 answers) (low_behind answers (low_run (drill_calls v s) _ _ _))
 
-  pub line_is : {l a b y : List ℕ} {p q o f : ℕ} → Puts (word_letters (take (k + 2 - 2) (drop 2 ws)) (take (k + 2 - 2) (drop 2 m.places))) p l a q
-      → Puts (32 ∷ []) q a b o
-      → Puts (verdict_line (take m.state.head.used m.log)) o b y f
-      → Puts (number_line n start v k x) p l y f
+  pub line_is : {o a b y : Sink} → Adds (word_letters (take (k + 2 - 2) (drop 2 ws)) (take (k + 2 - 2) (drop 2 m.places))) o a
+      → Adds (32 ∷ []) a b
+      → Adds (verdict_line (take m.state.head.used m.log)) b y
+      → Adds (number_line n start v k x) o y
   unfolding drill_line
-  line_is {l} {a} {b} {y} {p} {q} {o} {f} A B C =
-      let A' = subst (λ (t : List ℕ). Puts t p l a q) letters A in
-      let C' = subst (λ (t : List ℕ). Puts (verdict_line t) o b y f)
+  line_is {o} {a} {b} {y} A B C =
+      let A' = subst (λ (t : List ℕ). Adds t o a) letters A in
+      let C' = subst (λ (t : List ℕ). Adds (verdict_line t) b y)
       (rows_are n start lent_cells drill_rows (take (k + 2) ws) places m (accepted n start fit) i ∙ ap (λ (y : Ran). take y.state.head.used y.log) ran_is) C in
-      behind A' (behind B C')
+      then_adds A' (then_adds B C')

@@ -1,27 +1,24 @@
 -- The turns of a schedule as calls, and their letters.
-use Prim.Native.Nat.{ℕ, zero, suc, ◌+◌, ◌-◌, ◌/◌, ◌%◌, ◌≤◌, ◌<◌}
+use Prim.Native.Nat.{ℕ, zero, suc, ◌+◌, ◌-◌, ◌/◌, ◌%◌, ◌<◌, min}
 use native.Mathlib.Omega.{arith}
 use native.Mathlib.Decide.{ℕ_discrete}
 use native.Mathlib.Numerals.{add-one}
 use mathlib.Core.Path.{◌≡◌, refl, ap, ◌∙◌}
-use mathlib.Core.Logic.{◌≢◌}
 use mathlib.Core.List.{List, [], ◌∷◌, ◌++◌, map, map-append}
 use lib.ListN.{length, get_or, take, set, length-append, length-map}
 use lib.Seq.{sets, set_comm, take_all}
-use borrow.Author.Tests.{eq-eqb, ne_eqb}
 use Rattle.common.specs.declared.State.{State}
-use Rattle.common.specs.declared.Answer.{Answer}
-use Rattle.common.specs.Calls.{Call}
+use Rattle.common.specs.Answers.{Answer}
+use Rattle.common.specs.declared.calls.Call.{Call}
 use Rattle.common.specs.CallWords.{answer_word}
 use Rattle.common.specs.Register.{call_of, run_of}
 use Rattle.protocol.specs.Rules.{ticket_rules}
 use Rattle.schedules.specs.Schedules.{Turn, w, r}
 use Rattle.schedules.specs.Numbers.{turn_of, turns_of}
-use Rattle.lines.specs.Lines.{Puts}
-use Rattle.lines.proofs.Puts.{nothing, behind}
+use Rattle.lines.specs.Adds.{Adds, Sink}
+use Rattle.lines.proofs.Adds.{no_text, then_adds}
 use Rattle.printing.specs.Drill.{turn_letter, turn_letters}
 use Rattle.printing.proofs.Answers.{Low, plain_call}
-use Rattle.prints.specs.Words.{refusal_in}
 use Rattle.prints.proofs.AnswerWords.{number_is}
 use Rattle.drills.specs.Words.{turn_word, turn_words, word_letter, word_letters}
 
@@ -60,28 +57,10 @@ pub turns_end : (l : List ℕ) (k x : ℕ) → k ≡ 0 → sets l 2 (turn_words 
 unfolding turn_words turns_of
 turns_end l k x z = rw z
 
--- The cases of a letter.
-module _ (c a : ℕ) where
-  pub letter_w : refusal_in a ≡ 0 → c % 2 ≡ 0 → 119 ≡ word_letter c a
-  unfolding word_letter
-  letter_w z y = rw (eq-eqb (refusal_in a) 0 z, eq-eqb (c % 2) 0 y)
-
-  pub letter_r : refusal_in a ≡ 0 → c % 2 ≢ 0 → 114 ≡ word_letter c a
-  unfolding word_letter
-  letter_r z y = rw (eq-eqb (refusal_in a) 0 z, ne_eqb (c % 2) 0 y)
-
-  pub capital_w : refusal_in a ≢ 0 → c % 2 ≡ 0 → 87 ≡ word_letter c a
-  unfolding word_letter
-  capital_w z y = rw (ne_eqb (refusal_in a) 0 z, eq-eqb (c % 2) 0 y)
-
-  pub capital_r : refusal_in a ≢ 0 → c % 2 ≢ 0 → 82 ≡ word_letter c a
-  unfolding word_letter
-  capital_r z y = rw (ne_eqb (refusal_in a) 0 z, ne_eqb (c % 2) 0 y)
-
 -- The letters one by one.
-pub no_letters : (cs answers l : List ℕ) (p : ℕ) → Puts (word_letters (take 0 cs) (take 0 answers)) p l l p
+pub no_letters : (cs answers : List ℕ) (a : Sink) → Adds (word_letters (take 0 cs) (take 0 answers)) a a
 unfolding word_letters
-no_letters cs answers l p = nothing l p
+no_letters cs answers a = no_text a
 
 one_more : (cs answers : List ℕ) (i : ℕ) → i < length cs → i < length answers
     → word_letters (take (suc i) cs) (take (suc i) answers) ≡ word_letters (take i cs) (take i answers) ++ (word_letter (get_or cs i 0) (get_or answers i 0) ∷ [])
@@ -91,25 +70,20 @@ one_more (c ∷ cs) [] i h g = absurd (omega arith)
 one_more (c ∷ cs) (a ∷ answers) zero h g = refl
 one_more (c ∷ cs) (a ∷ answers) (suc i) h g = ap (λ (t : List ℕ). word_letter c a ∷ t) (one_more cs answers i (omega arith) (omega arith))
 
-pub next_letter : (cs answers : List ℕ) (i x : ℕ) {l m y : List ℕ} {p q e : ℕ} → i < length cs → i < length answers
+pub next_letter : (cs answers : List ℕ) (i x : ℕ) {a b c : Sink} → i < length cs → i < length answers
     → x ≡ word_letter (get_or cs i 0) (get_or answers i 0)
-    → Puts (word_letters (take i cs) (take i answers)) p l m q
-    → Puts (x ∷ []) q m y e
-    → Puts (word_letters (take (i + 1) cs) (take (i + 1) answers)) p l y e
-next_letter cs answers i x {m = m} {y = y} {q = q} {e = e} h g z a b =
-    rw (add-one i, one_more cs answers i h g) (behind a (rw z at b))
+    → Adds (word_letters (take i cs) (take i answers)) a b
+    → Adds (x ∷ []) b c
+    → Adds (word_letters (take (i + 1) cs) (take (i + 1) answers)) a c
+next_letter cs answers i x h g z f k = rw (add-one i, one_more cs answers i h g) (then_adds f (rw z at k))
 
-same_letters : (cs answers : List ℕ) (i : ℕ) → length cs ≤ i → word_letters (take i cs) (take i answers) ≡ word_letters cs answers
+-- no letter is left behind the shorter of the lists
+pub all_letters : (cs answers : List ℕ) (i : ℕ) → i ≡ min (length cs) (length answers) → word_letters (take i cs) (take i answers) ≡ word_letters cs answers
 unfolding word_letters
-same_letters [] answers i h = rw (take_all i [] h)
-same_letters (c ∷ cs) answers zero h = absurd (omega arith)
-same_letters (c ∷ cs) [] (suc i) h = refl
-same_letters (c ∷ cs) (a ∷ answers) (suc i) h = ap (λ (t : List ℕ). word_letter c a ∷ t) (same_letters cs answers i (omega arith))
-
-pub all_letters : (cs answers : List ℕ) (i : ℕ) {l x : List ℕ} {p e : ℕ} → length cs ≤ i
-    → Puts (word_letters (take i cs) (take i answers)) p l x e
-    → Puts (word_letters cs answers) p l x e
-all_letters cs answers i h a = rw (same_letters cs answers i h) at a
+all_letters [] answers i h = rw (take_all {A = ℕ} i [] (omega arith))
+all_letters (c ∷ cs) [] i h = let z : i ≡ 0 = omega arith in rw z
+all_letters (c ∷ cs) (a ∷ answers) zero h = absurd (omega arith)
+all_letters (c ∷ cs) (a ∷ answers) (suc i) h = ap (λ (t : List ℕ). word_letter c a ∷ t) (all_letters cs answers i (omega arith))
 
 -- The letters by words are those of the turns and their answers.
 abbrev pub AllLow : List Answer → Type 0

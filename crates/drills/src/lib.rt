@@ -1,5 +1,4 @@
-// A short drill: what the program `drill` prints, put into lent bytes. What does not fit is left out, and each function gives the place behind what
-// it has put.
+// A short drill: what the program `drill` prints, put into lent bytes. What does not fit is left out.
 #![tactic(auto)]
 
 pub mod print; // the input and the whole print

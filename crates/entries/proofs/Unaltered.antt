@@ -6,8 +6,8 @@ use mathlib.Core.List.{List}
 use lib.ListN.{length}
 use lib.Dec.{leb}
 use Rattle.words.proofs.Laws.Choice.{pick_ind, never}
-use Rattle.common.specs.declared.Answer.{Answer}
-use Rattle.common.specs.declared.Answer.TheVariants.{Accepted, Moved, Refused}
+use Rattle.std.specs.Prelude.{Ok, Err}
+use Rattle.common.specs.Answers.{Answer}
 use Rattle.common.specs.declared.Refusal.{Refusal}
 use Rattle.common.specs.declared.State.{State}
 use Rattle.common.specs.Effects.{Unaltered}
@@ -16,14 +16,13 @@ use Rattle.common.specs.SetUp.{Outcome, refused, no_state, set_up_of}
 use Rattle.entries.specs.Contract.{over, set_up_over}
 
 abbrev is_refused : Answer → Bool
-is_refused Accepted = false
-is_refused (Moved k) = false
-is_refused (Refused r) = true
+is_refused (Ok done) = false
+is_refused (Err why) = true
 
 module _ (R : Rules) (s : State) (t l : List ℕ) where
   -- what is to be shown of a set-up's outcome
   Keeps : Outcome → Type 0
-  Keeps o = (r : Refusal) → o.answer ≡ Refused r → Unaltered s t l (over s o)
+  Keeps o = (r : Refusal) → o.answer ≡ Err r → Unaltered s t l (over s o)
 
   refuses : (why : Refusal) (fresh : State) → Keeps (refused why fresh t l)
   unfolding Keeps
@@ -33,7 +32,7 @@ module _ (R : Rules) (s : State) (t l : List ℕ) where
   unfolding Keeps
   takes o f r e = never (sym (ap is_refused e) ∙ f)
 
-  pub set_up_unaltered : (n v fresh : ℕ) (r : Refusal) → (set_up_over R s t l n v fresh).answer ≡ Refused r → Unaltered s t l (set_up_over R s t l n v fresh)
+  pub set_up_unaltered : (n v fresh : ℕ) (r : Refusal) → (set_up_over R s t l n v fresh).answer ≡ Err r → Unaltered s t l (set_up_over R s t l n v fresh)
   unfolding set_up_of Keeps
   set_up_unaltered n v fresh =
       pick_ind Keeps (leb 1 n && leb n 16) _ _

@@ -1,8 +1,7 @@
 -- What the entries answer and leave, by the rules of the register that the state is of.
-use Rattle.std.specs.Prelude.{ℕ, List, eqb}
+use Rattle.std.specs.Prelude.{ℕ, List, eqb, Ok, Err}
 use Rattle.words.specs.Choice.{pick}
-use Rattle.common.specs.declared.Answer.{Answer}
-use Rattle.common.specs.declared.Answer.TheVariants.{Accepted, Moved, Refused}
+use Rattle.common.specs.Answers.{Answer}
 use Rattle.common.specs.declared.State.{State}
 use Rattle.common.specs.CallWords.{answer_word}
 use Rattle.common.specs.Rules.{Rules}
@@ -26,9 +25,8 @@ retire_of s t l p = Register.retire_of (rules_of s.head.counted) s t l p
 
 -- set-up over a lent state: "A no gives its number and alters nothing."
 abbrev pub unless_refused : Answer → State → State → State
-unless_refused Accepted s next = next
-unless_refused (Moved k) s next = next
-unless_refused (Refused r) s next = s
+unless_refused (Ok done) s next = next
+unless_refused (Err why) s next = s
 
 abbrev pub over : State → Outcome → Outcome
 over s o = record { answer = o.answer; state = unless_refused o.answer s o.state; table = o.table; log = o.log }

@@ -1,12 +1,13 @@
 -- Fields, read place by place.
-use Prim.Native.Nat.{ℕ, ◌+◌, ◌-◌, ◌*◌, ◌≤◌, ◌<◌}
+use Prim.Native.Nat.{ℕ, ◌+◌, ◌-◌, ◌*◌, ◌≤◌, ◌<◌, max}
 use native.Mathlib.Omega.{arith}
 use native.Mathlib.Numerals.{add-one}
 use mathlib.Core.Path.{◌≡◌, refl, sym, ap, ◌∙◌}
-use mathlib.Core.Logic.{◌≢◌}
+use mathlib.Core.Logic.{◌≢◌, inl, inr}
 use mathlib.Core.Bool.{Bool, true, false, ◌&&◌}
 use mathlib.Core.List.{List, [], ◌∷◌}
 use lib.Dec.{ltb}
+use Rattle.std.proofs.lemmas.Bool.{cases_lt}
 use lib.ListN.{length, get_or, take, drop, length-drop, drop_of_length-le}
 use lib.Seq.{drop-cons, take_all}
 use borrow.Author.Tests.{eq-eqb, ne_eqb, le-ltb, lt-ltb}
@@ -32,6 +33,15 @@ module _ (x : ℕ) (b : List ℕ) (i : ℕ) where
   pub place_next : i < length b → get_or b i 0 ≢ x → place_of x b i ≡ place_of x b (i + 1)
   unfolding place_of before
   place_next h n = rw (add-one, drop-cons b i 0 h, ne_eqb (get_or b i 0) x n) (omega arith)
+
+-- A search that ends behind the last byte, from a place that may be behind it.
+pub place_past : (x : ℕ) (b : List ℕ) (from i : ℕ) → from ≤ i → length b ≤ i → (from ≤ length b → i ≤ length b)
+    → place_of x b i ≡ place_of x b from → max from (length b) ≡ place_of x b from
+place_past x b from i h e f at =
+    elim (cases_lt (length b) from) [
+      | inl g ↦ omega (arith, place_end x b from (omega arith))
+      | inr l ↦ omega (arith, place_end x b i e, f l)
+    ]
 
 -- Once none, always none.
 same : {A : Type 0} (t : Bool) (a : A) → pick t a a ≡ a
@@ -95,15 +105,11 @@ pub digits_end : (v : ℕ) (b : List ℕ) (i : ℕ) → length b ≤ i → digit
 unfolding digits_after
 digits_end v b i h = rw (drop_of_length-le b h)
 
--- The cases of one digit.
-pub digit_fits : (v b : ℕ) → is_digit b ≡ true → v * 10 + (b - 48) < none → v * 10 + (b - 48) ≡ digit_after v b
-unfolding digit_after
-digit_fits v b e h = rw (e, lt-ltb (v * 10 + (b - 48)) none h)
+-- The digits read so far gave v, and the next one none, or the number w.
+module _ (v : ℕ) (b : List ℕ) (i : ℕ) (h : i < length b) (so_far : digits_after v (drop i b) ≡ digits_after 0 b) where
+  pub digits_go : (w : ℕ) → w ≡ digit_after v (get_or b i 0) → digits_after w (drop (i + 1) b) ≡ digits_after 0 b
+  digits_go w e = rw e (sym (digits_next v b i h) ∙ so_far)
 
-pub digit_large : (v b : ℕ) → none ≤ v * 10 + (b - 48) → none ≡ digit_after v b
-unfolding digit_after
-digit_large v b h = rw (le-ltb (v * 10 + (b - 48)) none h, same (is_digit b) none)
-
-pub digit_bad : (v b : ℕ) → is_digit b ≡ false → none ≡ digit_after v b
-unfolding digit_after
-digit_bad v b e = rw e
+  pub digits_stop : digit_after v (get_or b i 0) ≡ none → number_in b ≡ none
+  digits_stop e =
+      sym (number_is b (λ z. omega arith)) ∙ sym so_far ∙ digits_next v b i h ∙ ap (λ (y : ℕ). digits_after y (drop (i + 1) b)) e ∙ stays (drop (i + 1) b)

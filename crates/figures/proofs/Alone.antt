@@ -1,4 +1,5 @@
 -- Operations that run alone: from a book in which none is open, one behind the other, to one in which none is.
+use Rattle.std.specs.Prelude.{Ok}
 use Prim.Native.Nat.{ℕ, zero, suc, ◌+◌, ◌*◌, ◌≤◌}
 use mathlib.Core.Path.{◌≡◌, refl, sym, ap, subst, ◌∙◌}
 use mathlib.Core.Logic.{◌≢◌}
@@ -9,8 +10,10 @@ use native.Mathlib.Decide.{ℕ_discrete}
 use native.Mathlib.Nat.{mul-add, mul-suc}
 use Rattle.words.specs.Counting.{one}
 use Rattle.words.proofs.Laws.Update.{upd_same, upd_other}
-use Rattle.common.specs.Calls.{Call, write, read, step, is_retirement}
-use Rattle.common.specs.declared.Answer.TheVariants.{Moved}
+use Rattle.common.specs.Calls.{is_retirement}
+use Rattle.common.specs.declared.calls.Call.{Call}
+use Rattle.common.specs.declared.calls.Call.TheVariants.{Write as write, Read as read, Step as step}
+use Rattle.common.specs.declared.Done.TheVariants.{Moved}
 use Rattle.common.specs.Book.{Operation, idle, open_with, is_open, Model, Turn, Telling, Told, begun, entered, told, kept}
 use Rattle.common.proofs.Counts.{write_told, read_told}
 use Rattle.figures.specs.Counts.{NoRetirement, write_begun, writes_in}
@@ -18,7 +21,7 @@ use Rattle.figures.proofs.Lists.{Leads, nothing, call, join, counted_as, list_in
 use Rattle.figures.proofs.Cases.{size, cases, write_begins, read_begins}
 use Rattle.figures.proofs.Rows.{list_size}
 use Rattle.figures.proofs.CostModel.{left, CostModel}
-use Rattle.figures.proofs.Spending.{read_left, Ok, call_spends, list_spends}
+use Rattle.figures.proofs.Spending.{read_left, AllOk, call_spends, list_spends}
 
 -- What holds of a book with so many writes to come, and lets each begin: the stamps last.
 pub record Lasts {Stamp Cell : Type 0} (B : Telling Stamp Cell) (n len : ℕ) : Type 1 where
@@ -35,7 +38,7 @@ module _ {Stamp Cell : Type 0} (B : Telling Stamp Cell) (n len W R L : ℕ) (M :
 
   -- behind j begins, with g writes to come
   pub record At (g j : ℕ) (b : Model Stamp Cell) : Type 0 where
-    pub ok : Ok B n len W R L M b
+    pub ok : AllOk B n len W R L M b
     pub free : (p : ℕ) → b.retired p ≡ false
     pub can : S.Can g b
     pub size_is : size B n len b ≡ 1 + 2 * j
@@ -87,29 +90,29 @@ module _ {Stamp Cell : Type 0} (B : Telling Stamp Cell) (n len W R L : ℕ) (M :
       number : ℕ
       turn : Turn Stamp Cell
       kind : ℕ
-      told_is : told B n len b (step p) ≡ record { answer = Moved number; model = entered b p kind turn }
+      told_is : told B n len b (step p) ≡ record { answer = Ok (Moved number); model = entered b p kind turn }
       to_come : toCome (entered b p kind turn) ≡ k
 
-    module _ (ends : (b : Model Stamp Cell) → Ok B n len W R L M b → toCome b ≡ 0 → is_open (b.op p) ≡ false)
-        (turns : (k : ℕ) (b : Model Stamp Cell) → Ok B n len W R L M b → ((q : ℕ) → b.retired q ≡ false) → toCome b ≡ suc k → Steps k b) where
-      run : (k : ℕ) (b : Model Stamp Cell) → Ok B n len W R L M b → ((q : ℕ) → b.retired q ≡ false) → toCome b ≡ k → Goes p b 0 0 k
+    module _ (ends : (b : Model Stamp Cell) → AllOk B n len W R L M b → toCome b ≡ 0 → is_open (b.op p) ≡ false)
+        (turns : (k : ℕ) (b : Model Stamp Cell) → AllOk B n len W R L M b → ((q : ℕ) → b.retired q ≡ false) → toCome b ≡ suc k → Steps k b) where
+      run : (k : ℕ) (b : Model Stamp Cell) → AllOk B n len W R L M b → ((q : ℕ) → b.retired q ≡ false) → toCome b ≡ k → Goes p b 0 0 k
       run zero b ok free e = record { to = b; lead = nothing B n len b; others = λ _ _. refl; shut = ends b ok e }
       run (suc k) b ok free e =
           let t = turns k b ok free e in
           let d = entered b p t.kind t.turn in
           subst (Goes p b 0 0) (omega arith)
           (in_front p (call B n len b (step p) _ refl t.told_is) (λ q ne. upd_other b.op p t.turn.op q ne)
-          (run k d (subst (λ (z : Told Stamp Cell). Ok B n len W R L M z.model) t.told_is (call_spends B n len W R L M b ok (step p) refl).0) free t.to_come))
+          (run k d (subst (λ (z : Told Stamp Cell). AllOk B n len W R L M z.model) t.told_is (call_spends B n len W R L M b ok (step p) refl).0) free t.to_come))
 
   -- the writer's
-  writer_ends_lem : (b : Model Stamp Cell) → Ok B n len W R L M b → left W (b.op 0) ≡ 0 → is_open (b.op 0) ≡ false
+  writer_ends_lem : (b : Model Stamp Cell) → AllOk B n len W R L M b → left W (b.op 0) ≡ 0 → is_open (b.op 0) ≡ false
   writer_ends_lem b ok e = at (b.op 0) ok.writer e
     where
       at : (o : Operation Cell) → M.WOk o → left W o ≡ 0 → is_open o ≡ false
       at idle is e = refl
       at (open_with v m cells) is e = absurd (omega (arith, M.write_left b.table (b.stamp 0) v m cells is))
 
-  writer_turns_lem : (k : ℕ) (b : Model Stamp Cell) → Ok B n len W R L M b → ((q : ℕ) → b.retired q ≡ false) → left W (b.op 0) ≡ suc k
+  writer_turns_lem : (k : ℕ) (b : Model Stamp Cell) → AllOk B n len W R L M b → ((q : ℕ) → b.retired q ≡ false) → left W (b.op 0) ≡ suc k
       → Steps 0 (λ (d : Model Stamp Cell). left W (d.op 0)) k b
   writer_turns_lem k b ok free e = at (b.op 0) refl
     where
@@ -125,7 +128,7 @@ module _ {Stamp Cell : Type 0} (B : Telling Stamp Cell) (n len W R L : ℕ) (M :
             to_come = omega (arith, ap (left W) (upd_same b.op 0 x.op), ap (left W) i, M.write_left b.table (b.stamp 0) v m cells (subst M.WOk i ok.writer));
           }
 
-  pub run_writer : (b : Model Stamp Cell) → Ok B n len W R L M b → ((q : ℕ) → b.retired q ≡ false) → Goes 0 b 0 0 (left W (b.op 0))
+  pub run_writer : (b : Model Stamp Cell) → AllOk B n len W R L M b → ((q : ℕ) → b.retired q ≡ false) → Goes 0 b 0 0 (left W (b.op 0))
   run_writer b ok free = run 0 (λ (d : Model Stamp Cell). left W (d.op 0)) writer_ends_lem writer_turns_lem (left W (b.op 0)) b ok free refl
 
   -- a reader's, with those of a second attempt that is to come
@@ -146,14 +149,14 @@ module _ {Stamp Cell : Type 0} (B : Telling Stamp Cell) (n len W R L : ℕ) (M :
           mul-add L (M.late p t m cells) (M.stale p x.table x.op),
         )
 
-    reader_ends : (b : Model Stamp Cell) → Ok B n len W R L M b → to_read b ≡ 0 → is_open (b.op p) ≡ false
+    reader_ends : (b : Model Stamp Cell) → AllOk B n len W R L M b → to_read b ≡ 0 → is_open (b.op p) ≡ false
     reader_ends b ok e = at (b.op p) (ok.reader p p1 pn) e
       where
         at : (o : Operation Cell) → M.ROk o → read_left B n len W R L M p o + L * M.stale p b.table o ≡ 0 → is_open o ≡ false
         at idle is e = refl
         at (open_with v m cells) is e = absurd (omega (arith, reader_falls b.table (b.stamp p) v m cells is))
 
-    reader_turns_lem : (k : ℕ) (b : Model Stamp Cell) → Ok B n len W R L M b → ((q : ℕ) → b.retired q ≡ false) → to_read b ≡ suc k → Steps p to_read k b
+    reader_turns_lem : (k : ℕ) (b : Model Stamp Cell) → AllOk B n len W R L M b → ((q : ℕ) → b.retired q ≡ false) → to_read b ≡ suc k → Steps p to_read k b
     reader_turns_lem k b ok free e = at (b.op p) refl (ok.reader p p1 pn) e
       where
         at : (o : Operation Cell) → b.op p ≡ o → M.ROk o → read_left B n len W R L M p o + L * M.stale p b.table o ≡ suc k → Steps p to_read k b
@@ -168,7 +171,7 @@ module _ {Stamp Cell : Type 0} (B : Telling Stamp Cell) (n len W R L : ℕ) (M :
               to_come = rw (upd_same b.op p x.op) (omega (arith, reader_falls b.table (b.stamp p) v m cells is));
             }
 
-    pub run_reader : (b : Model Stamp Cell) → Ok B n len W R L M b → ((q : ℕ) → b.retired q ≡ false) → Goes p b 0 0 (to_read b)
+    pub run_reader : (b : Model Stamp Cell) → AllOk B n len W R L M b → ((q : ℕ) → b.retired q ≡ false) → Goes p b 0 0 (to_read b)
     run_reader b ok free = run p to_read reader_ends reader_turns_lem (to_read b) b ok free refl
 
     -- a read alone

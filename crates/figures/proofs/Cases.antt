@@ -10,7 +10,9 @@ use lib.ListN.{length}
 use Rattle.words.specs.Counting.{one}
 use borrow.Author.Tests.{le-leb}
 use Rattle.words.proofs.Laws.Choice.{pick_ind, le_ind, eq_ind, both, never}
-use Rattle.common.specs.Calls.{Call, write, read, step, retire, is_retirement}
+use Rattle.common.specs.Calls.{is_retirement}
+use Rattle.common.specs.declared.calls.Call.{Call}
+use Rattle.common.specs.declared.calls.Call.TheVariants.{Write as write, Read as read, Step as step, Retire as retire}
 use Rattle.common.specs.Answers.{refusal_number}
 use Rattle.common.specs.declared.Refusal.{Refusal}
 use Rattle.common.specs.declared.Refusal.TheVariants.{Processor, Retired, Busy, Full, Idle, Spent}

@@ -8,7 +8,8 @@ use borrow.Author.Tests.{ne_eqb}
 use Rattle.words.specs.Counting.{one}
 use Rattle.words.proofs.Laws.Choice.{lt_ind}
 use Rattle.words.proofs.Laws.Update.{upd_same, upd_other}
-use Rattle.common.specs.Calls.{Call, is_write, is_retirement}
+use Rattle.common.specs.Calls.{is_write, is_retirement}
+use Rattle.common.specs.declared.calls.Call.{Call}
 use Rattle.common.specs.Book.{idle, open_with, is_open, told, fresh_model}
 use Rattle.counted.specs.declared.Cell.{Cell}
 use Rattle.counted.specs.State.{last_stamp}

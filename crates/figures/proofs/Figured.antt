@@ -9,7 +9,8 @@ use native.Mathlib.Nat.{mul-le-mul_left}
 use lib.Dec.{leb}
 use borrow.Author.Tests.{le-leb, lt-leb}
 use Rattle.words.proofs.Laws.Choice.{both}
-use Rattle.common.specs.Calls.{Call, write, read}
+use Rattle.common.specs.declared.calls.Call.{Call}
+use Rattle.common.specs.declared.calls.Call.TheVariants.{Write as write, Read as read}
 use Rattle.common.specs.Answers.{number_of}
 use Rattle.common.specs.declared.Refusal.TheVariants.{Full}
 use Rattle.common.specs.Book.{is_open, Model, Telling, Told, begins, declined, told, fresh_model}

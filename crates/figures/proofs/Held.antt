@@ -17,7 +17,8 @@ use Rattle.words.proofs.Laws.Cell.{packed_cur}
 use Rattle.words.proofs.Laws.Choice.{lt_ind, never}
 use Rattle.words.proofs.Laws.Index.{index_low}
 use Rattle.words.proofs.Laws.Update.{upd_same, upd_other}
-use Rattle.common.specs.Calls.{Call, is_retirement}
+use Rattle.common.specs.Calls.{is_retirement}
+use Rattle.common.specs.declared.calls.Call.{Call}
 use Rattle.common.specs.Book.{idle, open_with, is_open, told, fresh_model}
 use Rattle.protocol.specs.Table.{view, store}
 use Rattle.protocol.specs.Reference.{Operation, Model, Turn, Result, named_tickets, excluded_tickets, ticket_after, write_turn, result_turn, read_turn, book}

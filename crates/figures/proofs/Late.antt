@@ -1,5 +1,6 @@
 -- The first register: reads that have a second attempt. In a write, behind its n reads of cells, a reader begins and looks, the writer stores to it,
 -- and the read runs to its end; then the next reader does.
+use Rattle.std.specs.Prelude.{Ok}
 use Prim.Native.Nat.{ℕ, zero, suc, ◌+◌, ◌*◌, ◌≤◌, ◌<◌}
 use mathlib.Core.Path.{◌≡◌, refl, sym, ap, subst, subst₂, ◌∙◌}
 use mathlib.Core.Logic.{◌≢◌}
@@ -13,8 +14,8 @@ use Rattle.words.specs.declared.cell.Cell.{Cell}
 use Rattle.words.specs.declared.stamp.Stamp.{Stamp}
 use Rattle.words.specs.Update.{upd}
 use Rattle.words.proofs.Laws.Update.{upd_same, upd_other}
-use Rattle.common.specs.Calls.{read, step}
-use Rattle.common.specs.declared.Answer.TheVariants.{Moved}
+use Rattle.common.specs.declared.calls.Call.TheVariants.{Read as read, Step as step}
+use Rattle.common.specs.declared.Done.TheVariants.{Moved}
 use Rattle.common.specs.Book.{idle, open_with, is_open, begun, entered}
 use Rattle.common.proofs.Counts.{write_told, read_told}
 use Rattle.protocol.specs.Table.{view}
@@ -97,7 +98,7 @@ module _ (n len : ℕ) (pos : 1 ≤ n) (few : n ≤ 16) where
     to_b2 =
         call book n len b1 (step (suc k)) _ refl
         (read_told book n len b1 (suc k) _ (omega arith) (omega arith) (M.behind.free (suc k)) (upd_same b.op (suc k) (open_with 0 0 []))
-        ∙ ap (λ (z : Turn). record { answer = Moved (0 + 1); model = entered b1 (suc k) 4 z }) (first_look n (suc k) b.table (b.stamp (suc k))))
+        ∙ ap (λ (z : Turn). record { answer = Ok (Moved (0 + 1)); model = entered b1 (suc k) 4 z }) (first_look n (suc k) b.table (b.stamp (suc k))))
 
     op_0 : b2.op 0 ≡ open_with v m cells
     op_0 = upd_other b1.op (suc k) _ 0 (omega arith) ∙ upd_other b.op (suc k) _ 0 (omega arith) ∙ is

@@ -5,8 +5,9 @@ use mathlib.Core.Bool.{Bool, false}
 use mathlib.Core.List.{List, [], ◌∷◌, ◌++◌}
 use native.Mathlib.Omega.{arith}
 use Rattle.words.specs.Counting.{one}
-use Rattle.common.specs.Calls.{Call, is_retirement}
-use Rattle.common.specs.declared.Answer.{Answer}
+use Rattle.common.specs.Calls.{is_retirement}
+use Rattle.common.specs.declared.calls.Call.{Call}
+use Rattle.common.specs.Answers.{Answer}
 use Rattle.common.specs.Book.{Telling, Model, Told, told, kept}
 use Rattle.figures.specs.Counts.{NoRetirement, write_begun, read_begun, word_moved, tally, writes_in, reads_in, words_in}
 

@@ -8,14 +8,14 @@ use native.Mathlib.Omega.{arith}
 use lib.Dec.{leb}
 use borrow.Author.Tests.{le-leb, leb-true, leb-false}
 use Rattle.words.proofs.Laws.Choice.{pick_ind, le_ind, left, right, both}
-use Rattle.common.specs.Calls.{Call}
+use Rattle.common.specs.declared.calls.Call.{Call}
 use Rattle.common.specs.SetUp.{readers_fit, rows_fit}
 use Rattle.common.specs.Book.{fresh_model}
 use Rattle.protocol.specs.Reference as Tickets
 use Rattle.counted.specs.Reference as Counted
 use Rattle.counted.specs.State.{last_stamp}
 use Rattle.figures.specs.declared.Figures.{Figures}
-use Rattle.figures.specs.declared.Sizing.{Sizing}
+use Rattle.figures.specs.Sizing.{Sizing}
 use Rattle.figures.specs.Sizing.{rows_for, write_words, read_words, second_words, least_words, most_words, size_of}
 use Rattle.figures.specs.Meaning.{NoneFull, Ends, Hold, Sharp, Mean, NoLog, UpTo2000, Says}
 use Rattle.figures.proofs.Figured.{rows_low, rows_room, enough, between, alone, ends_of, fewest}

@@ -10,7 +10,7 @@ use borrow.Author.Tests.{lt-ltb}
 use Rattle.words.specs.declared.cell.Cell.{Cell}
 use Rattle.words.specs.declared.stamp.Stamp.{Stamp}
 use Rattle.words.proofs.Laws.Update.{upd_same, upd_other}
-use Rattle.common.specs.Calls.{write, step}
+use Rattle.common.specs.declared.calls.Call.TheVariants.{Write as write, Step as step}
 use Rattle.common.specs.Book.{open_with, is_open, begun, entered, fresh_model}
 use Rattle.common.proofs.Counts.{write_told}
 use Rattle.protocol.specs.Reference.{Model, cell_read, write_turn, book}

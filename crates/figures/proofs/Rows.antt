@@ -1,4 +1,5 @@
 -- Rows used and open operations: two more for each begin, so that question 7's answer goes by the number of begins alone.
+use Rattle.std.specs.Prelude.{Ok}
 use Prim.Native.Nat.{ℕ, zero, suc, ◌+◌, ◌*◌, ◌≤◌, ◌<◌}
 use mathlib.Core.Path.{◌≡◌, refl, ap}
 use mathlib.Core.Bool.{Bool, true, false, not, ◌&&◌}
@@ -11,9 +12,11 @@ use Rattle.words.specs.Row.{row_of}
 use Rattle.words.specs.Update.{upd}
 use Rattle.words.proofs.Laws.Counting.{count_same, count_one, count_nowhere}
 use Rattle.words.proofs.Laws.Update.{upd_same, upd_other, upd_first}
-use Rattle.common.specs.Calls.{Call, write, read, step, is_write, is_read, is_retirement}
+use Rattle.common.specs.Calls.{is_write, is_read, is_retirement}
+use Rattle.common.specs.declared.calls.Call.{Call}
+use Rattle.common.specs.declared.calls.Call.TheVariants.{Write as write, Read as read, Step as step}
 use Rattle.common.specs.Answers.{number_of}
-use Rattle.common.specs.declared.Answer.TheVariants.{Moved}
+use Rattle.common.specs.declared.Done.TheVariants.{Moved}
 use Rattle.common.specs.Book.{Operation, open_with, is_open, Model, Turn, Telling, Told, begun, entered, told, kept, fresh_model}
 use Rattle.figures.specs.Counts.{NoRetirement, write_begun, read_begun, writes_in, reads_in}
 use Rattle.figures.proofs.Lists.{list_ind}
@@ -58,7 +61,7 @@ module _ {Stamp Cell : Type 0} (B : Telling Stamp Cell) (n len : ℕ) where
 
     -- a sub-step: an end's row takes the place of the operation
     moved_fair : (p kind m : ℕ) (x : Turn Stamp Cell) → p ≤ n → (1 ≤ p → b.retired p ≡ false) → is_open (b.op p) ≡ true
-        → Fair b (step p) (record { answer = Moved m; model = entered b p kind x })
+        → Fair b (step p) (record { answer = Ok (Moved m); model = entered b p kind x })
     moved_fair p kind m x h free is = record {
       size_is = omega (arith, opens_upd n b.retired b.op p x.op h free, ap one is, row (is_open x.op));
       full = λ f. absurd (omega arith);

@@ -9,7 +9,8 @@ use Rattle.words.specs.Row
 use Rattle.words.specs.Index
 use Rattle.words.specs.Update
 use Rattle.words.specs.Counting
-use Rattle.common.specs.Calls.{Call, write, read, step}
+use Rattle.common.specs.declared.calls.Call.{Call}
+use Rattle.common.specs.declared.calls.Call.TheVariants.{Write as write, Read as read, Step as step}
 use Rattle.common.specs.Book
 use Rattle.common.specs.Book.{Telling, open_count}
 use Rattle.protocol.specs.Reference as Tickets

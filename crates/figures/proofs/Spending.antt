@@ -1,4 +1,5 @@
 -- Each call's words, against what its operations cost; and so those of a list.
+use Rattle.std.specs.Prelude.{Ok}
 use Prim.Native.Nat.{ℕ, zero, suc, ◌+◌, ◌*◌, ◌≤◌}
 use mathlib.Core.Path.{◌≡◌, refl, sym, ap, subst, ◌∙◌}
 use mathlib.Core.Logic.{◌≢◌}
@@ -9,8 +10,10 @@ use native.Mathlib.Nat.{mul-add}
 use Rattle.words.specs.Counting.{one}
 use Rattle.words.specs.Update.{upd}
 use Rattle.words.proofs.Laws.Update.{upd_same, upd_other, upd_first, upd_elim}
-use Rattle.common.specs.Calls.{Call, write, read, step, is_write, is_read, is_retirement}
-use Rattle.common.specs.declared.Answer.TheVariants.{Moved}
+use Rattle.common.specs.Calls.{is_write, is_read, is_retirement}
+use Rattle.common.specs.declared.calls.Call.{Call}
+use Rattle.common.specs.declared.calls.Call.TheVariants.{Write as write, Read as read, Step as step}
+use Rattle.common.specs.declared.Done.TheVariants.{Moved}
 use Rattle.common.specs.Book.{Operation, idle, open_with, is_open, Model, Turn, Telling, Told, begun, entered, told, kept, fresh_model}
 use Rattle.common.proofs.Follows.{is_idle}
 use Rattle.figures.specs.Counts.{NoRetirement, write_begun, read_begun, word_moved, writes_in, reads_in, words_in}
@@ -49,7 +52,7 @@ module _ {Stamp Cell : Type 0} (B : Telling Stamp Cell) (n len W R L : ℕ) (M :
   abbrev pub undecided_reads : Model Stamp Cell → ℕ
   undecided_reads b = sum n (λ i. M.undecided (b.op (suc i)))
 
-  pub record Ok (b : Model Stamp Cell) : Type 0 where
+  pub record AllOk (b : Model Stamp Cell) : Type 0 where
     pub writer : M.WOk (b.op 0)
     pub reader : (p : ℕ) → 1 ≤ p → p ≤ n → M.ROk (b.op p)
 
@@ -71,15 +74,15 @@ module _ {Stamp Cell : Type 0} (B : Telling Stamp Cell) (n len W R L : ℕ) (M :
     late_stores = omega (arith, P.late_stores, Q.late_stores, mul-add n w w');
   }
 
-  module _ (b : Model Stamp Cell) (ok : Ok b) where
+  module _ (b : Model Stamp Cell) (ok : AllOk b) where
     abbrev To : Call → Told Stamp Cell → Type 0
-    To c x = Ok x.model × Spends b x.model (one (write_begun c x.answer)) (one (read_begun c x.answer)) (one (word_moved c x.answer))
+    To c x = AllOk x.model × Spends b x.model (one (write_begun c x.answer)) (one (read_begun c x.answer)) (one (word_moved c x.answer))
 
     refuses : (w r : ℕ) → w ≡ 0 → r ≡ 0 → Spends b b w r 0
     refuses w r e f = record { lates = 0; words_are = rw (e, f) (omega arith); late_reads = omega arith; late_stores = omega (arith, ap (λ (k : ℕ). n * k) e) }
 
     ok_upd : (p : ℕ) (o : Operation Cell) → (p ≡ 0 → M.WOk o) → (1 ≤ p → M.ROk o) → (t : List ℕ) (rows : List ℕ) (stamp : ℕ → Stamp)
-        → Ok (record { table = t; rows = rows; stamp = stamp; op = upd b.op p o; retired = b.retired })
+        → AllOk (record { table = t; rows = rows; stamp = stamp; op = upd b.op p o; retired = b.retired })
     ok_upd p o w r t rows stamp = record {
       writer = upd_elim (λ j q. j ≡ 0 → M.WOk q) b.op p o (λ e. w e) (λ j _ e. subst (λ (k : ℕ). M.WOk (b.op k)) (sym e) ok.writer) 0 refl;
       reader = upd_elim (λ j q. 1 ≤ j → j ≤ n → M.ROk q) b.op p o (λ h _. r h) (λ j _. ok.reader j);
@@ -134,7 +137,7 @@ module _ {Stamp Cell : Type 0} (B : Telling Stamp Cell) (n len W R L : ℕ) (M :
         writer_left = ap (left W) (upd_other b.op p (open_with 0 0 []) 0 (omega arith))
 
     write_moved : (k v m : ℕ) (cells : List Cell) → b.op 0 ≡ open_with v m cells
-        → To (step 0) (record { answer = Moved k; model = entered b 0 2 (B.write_turn n b.table (b.stamp 0) v m cells) })
+        → To (step 0) (record { answer = Ok (Moved k); model = entered b 0 2 (B.write_turn n b.table (b.stamp 0) v m cells) })
     write_moved k v m cells e = (
       ok_upd 0 x.op (λ _. M.write_ok b.table (b.stamp 0) v m cells is) (λ h. absurd (omega arith)) _ _ _,
       record {
@@ -164,7 +167,7 @@ module _ {Stamp Cell : Type 0} (B : Telling Stamp Cell) (n len W R L : ℕ) (M :
         is = subst M.WOk e ok.writer
 
     read_moved : (p : ℕ) → 1 ≤ p → p ≤ n → (k v m : ℕ) (cells : List Cell) → b.op p ≡ open_with v m cells
-        → To (step p) (record { answer = Moved k; model = entered b p 4 (B.read_turn n p b.table (b.stamp p) m cells) })
+        → To (step p) (record { answer = Ok (Moved k); model = entered b p 4 (B.read_turn n p b.table (b.stamp p) m cells) })
     read_moved p p1 pn k v m cells e = (
       ok_upd p x.op (λ z. absurd (omega arith)) (λ _. M.read_ok p p1 pn b.table (b.stamp p) v m cells is) _ _ _,
       record {
@@ -209,11 +212,11 @@ module _ {Stamp Cell : Type 0} (B : Telling Stamp Cell) (n len W R L : ℕ) (M :
       read_moved = λ p p1 pn _ v m cells e. read_moved p p1 pn (m + 1) v m cells e;
     })
 
-  pub list_spends : (cs : List Call) (b : Model Stamp Cell) → NoRetirement cs → Ok b
-      → let z = kept B n len b cs in Ok z.model × Spends b z.model (writes_in cs z.answers) (reads_in cs z.answers) (words_in cs z.answers)
-  list_spends = list_ind B n len Spends Ok nothing (λ b c e ok. call_spends b ok c e) more
+  pub list_spends : (cs : List Call) (b : Model Stamp Cell) → NoRetirement cs → AllOk b
+      → let z = kept B n len b cs in AllOk z.model × Spends b z.model (writes_in cs z.answers) (reads_in cs z.answers) (words_in cs z.answers)
+  list_spends = list_ind B n len Spends AllOk nothing (λ b c e ok. call_spends b ok c e) more
 
-  pub fresh_ok : (v fresh : ℕ) → Ok (fresh_model B n v fresh)
+  pub fresh_ok : (v fresh : ℕ) → AllOk (fresh_model B n v fresh)
   fresh_ok v fresh = record { writer = M.w_idle; reader = λ _ _ _. M.r_idle }
 
   -- where no operation is open, and in a fresh book

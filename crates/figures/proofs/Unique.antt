@@ -10,8 +10,9 @@ use Rattle.words.proofs.Laws.Choice.{left, right}
 use Rattle.common.specs.SetUp.{readers_fit, rows_fit}
 use Rattle.common.specs.Book.{Telling}
 use Rattle.figures.specs.declared.Figures.{Figures}
-use Rattle.figures.specs.declared.Sizing.{Sizing}
-use Rattle.figures.specs.declared.Sizing.TheVariants.{Refused, Larger, TooLong, Sized}
+use Rattle.figures.specs.Sizing.{Sizing}
+use Rattle.figures.specs.declared.NoFigures.TheVariants.{Refused, Larger, TooLong}
+use Rattle.std.proofs.Common.{Ok, Err}
 use Rattle.figures.specs.Sizing.{size_of}
 use Rattle.figures.specs.Meaning.{Hold, Sharp, Mean, NoLog, UpTo2000, Says}
 use Rattle.figures.proofs.Meaning.{says}
@@ -61,22 +62,22 @@ not_few writes reads (inr h) e = omega (arith, e.1)
 
 module _ (counted : Bool) (n writes reads : ℕ) where
   one_answer : (r s : Sizing) → Says counted n writes reads r → Says counted n writes reads s → r ≡ s
-  one_answer Refused Refused a b = refl
-  one_answer Refused Larger a b = absurd (not_fit n a b.0)
-  one_answer Refused TooLong a b = absurd (not_fit n a b.0)
-  one_answer Refused (Sized g) a b = absurd (not_fit n a b.0)
-  one_answer Larger Refused a b = absurd (not_fit n b a.0)
-  one_answer Larger Larger a b = refl
-  one_answer Larger TooLong a b = absurd (not_few writes reads a.1 b.1)
-  one_answer Larger (Sized g) a b = absurd (not_few writes reads a.1 b.1)
-  one_answer TooLong Refused a b = absurd (not_fit n b a.0)
-  one_answer TooLong Larger a b = absurd (not_few writes reads b.1 a.1)
-  one_answer TooLong TooLong a b = refl
-  one_answer TooLong (Sized g) a b = absurd (not_both counted n writes reads g b.1.0 b.2 b.3 a.2)
-  one_answer (Sized f) Refused a b = absurd (not_fit n b a.0)
-  one_answer (Sized f) Larger a b = absurd (not_few writes reads b.1 a.1)
-  one_answer (Sized f) TooLong a b = absurd (not_both counted n writes reads f a.1.0 a.2 a.3 b.2)
-  one_answer (Sized f) (Sized g) a b = ap Sized (figures_are counted n writes reads f g a.1.0 a.2 b.2 a.3 b.3)
+  one_answer (Err Refused) (Err Refused) a b = refl
+  one_answer (Err Refused) (Err Larger) a b = absurd (not_fit n a b.0)
+  one_answer (Err Refused) (Err TooLong) a b = absurd (not_fit n a b.0)
+  one_answer (Err Refused) (Ok g) a b = absurd (not_fit n a b.0)
+  one_answer (Err Larger) (Err Refused) a b = absurd (not_fit n b a.0)
+  one_answer (Err Larger) (Err Larger) a b = refl
+  one_answer (Err Larger) (Err TooLong) a b = absurd (not_few writes reads a.1 b.1)
+  one_answer (Err Larger) (Ok g) a b = absurd (not_few writes reads a.1 b.1)
+  one_answer (Err TooLong) (Err Refused) a b = absurd (not_fit n b a.0)
+  one_answer (Err TooLong) (Err Larger) a b = absurd (not_few writes reads b.1 a.1)
+  one_answer (Err TooLong) (Err TooLong) a b = refl
+  one_answer (Err TooLong) (Ok g) a b = absurd (not_both counted n writes reads g b.1.0 b.2 b.3 a.2)
+  one_answer (Ok f) (Err Refused) a b = absurd (not_fit n b a.0)
+  one_answer (Ok f) (Err Larger) a b = absurd (not_few writes reads b.1 a.1)
+  one_answer (Ok f) (Err TooLong) a b = absurd (not_both counted n writes reads f a.1.0 a.2 a.3 b.2)
+  one_answer (Ok f) (Ok g) a b = ap Ok (figures_are counted n writes reads f g a.1.0 a.2 b.2 a.3 b.3)
 
   -- what says so is what is answered
   pub only_one : (s : Sizing) → Says counted n writes reads s → s ≡ size_of counted n writes reads

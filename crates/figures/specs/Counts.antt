@@ -1,9 +1,10 @@
 -- What is counted in a list of calls, by its answers.
-use Rattle.std.specs.Prelude.{ℕ, ◌+◌, ◌≡◌, Bool, true, false, ◌&&◌, List, [], ◌∷◌}
+use Rattle.std.specs.Prelude.{ℕ, ◌+◌, ◌≡◌, Bool, true, false, ◌&&◌, List, [], ◌∷◌, Ok, Err}
 use Rattle.words.specs.Counting.{one}
-use Rattle.common.specs.Calls.{Call, is_write, is_read, is_retirement}
-use Rattle.common.specs.declared.Answer.{Answer}
-use Rattle.common.specs.declared.Answer.TheVariants.{Accepted, Moved, Refused}
+use Rattle.common.specs.Calls.{is_write, is_read, is_retirement}
+use Rattle.common.specs.declared.calls.Call.{Call}
+use Rattle.common.specs.Answers.{Answer}
+use Rattle.common.specs.declared.Done.TheVariants.{Accepted, Moved}
 
 -- a list without retirements
 abbrev pub NoRetirement : List Call → Type 0
@@ -11,14 +12,14 @@ NoRetirement [] = Unit {0}
 NoRetirement (c ∷ cs) = (is_retirement c ≡ false) × NoRetirement cs
 
 abbrev pub is_accepted : Answer → Bool
-is_accepted Accepted = true
-is_accepted (Moved k) = false
-is_accepted (Refused r) = false
+is_accepted (Ok Accepted) = true
+is_accepted (Ok (Moved k)) = false
+is_accepted (Err r) = false
 
 abbrev pub is_moved : Answer → Bool
-is_moved Accepted = false
-is_moved (Moved k) = true
-is_moved (Refused r) = false
+is_moved (Ok Accepted) = false
+is_moved (Ok (Moved k)) = true
+is_moved (Err r) = false
 
 -- a call, by its answer: a write is begun; a read is; a word is moved
 abbrev pub write_begun : Call → Answer → Bool

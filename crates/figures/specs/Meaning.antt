@@ -1,15 +1,16 @@
 -- What the figures of a drill mean, in document 02's words, over the books of both registers.
-use Rattle.std.specs.Prelude.{ℕ, ◌+◌, ◌^◌, ◌≤◌, ◌<◌, ◌≡◌, ◌≢◌, ◌⊎◌, Bool, true, false, List}
+use Rattle.std.specs.Prelude.{ℕ, ◌+◌, ◌^◌, ◌≤◌, ◌<◌, ◌≡◌, ◌≢◌, ◌⊎◌, Bool, true, false, List, Ok, Err}
 use Rattle.common.specs.Answers.{number_of}
-use Rattle.common.specs.Calls.{Call, write, read}
+use Rattle.common.specs.declared.calls.Call.{Call}
+use Rattle.common.specs.declared.calls.Call.TheVariants.{Write as write, Read as read}
 use Rattle.common.specs.SetUp.{readers_fit, rows_fit}
 use Rattle.common.specs.Book.{Telling, Kept, is_open, told, kept, fresh_model}
 use Rattle.protocol.specs.Reference as Tickets
 use Rattle.counted.specs.Reference as Counted
 use Rattle.counted.specs.State.{last_stamp}
 use Rattle.figures.specs.declared.Figures.{Figures}
-use Rattle.figures.specs.declared.Sizing.{Sizing}
-use Rattle.figures.specs.declared.Sizing.TheVariants.{Refused, Larger, TooLong, Sized}
+use Rattle.figures.specs.Sizing.{Sizing}
+use Rattle.figures.specs.declared.NoFigures.TheVariants.{Refused, Larger, TooLong}
 use Rattle.figures.specs.Counts.{NoRetirement, writes_in, reads_in, words_in}
 
 -- A register of n readers with a log of len rows, its start reading and, of the counted register, its fresh stamp.
@@ -71,8 +72,8 @@ UpTo2000 writes reads = (writes ≤ 2000) × (reads ≤ 2000)
 
 -- What each answer says: "Question 1 comes first; then larger numbers, then more rows than 4,096, each get a plain answer of their own"
 abbrev pub Says : Bool → ℕ → ℕ → ℕ → Sizing → Type 0
-Says counted n writes reads Refused = (n < 1) ⊎ (16 < n)
-Says counted n writes reads Larger = (readers_fit n ≡ true) × ((2000 < writes) ⊎ (2000 < reads))
-Says counted n writes reads TooLong = (readers_fit n ≡ true) × UpTo2000 writes reads × NoLog counted n writes reads
-Says counted n writes reads (Sized f) =
+Says counted n writes reads (Err Refused) = (n < 1) ⊎ (16 < n)
+Says counted n writes reads (Err Larger) = (readers_fit n ≡ true) × ((2000 < writes) ⊎ (2000 < reads))
+Says counted n writes reads (Err TooLong) = (readers_fit n ≡ true) × UpTo2000 writes reads × NoLog counted n writes reads
+Says counted n writes reads (Ok f) =
     (readers_fit n ≡ true) × UpTo2000 writes reads × (rows_fit f.rows ≡ true) × Mean counted n writes reads f

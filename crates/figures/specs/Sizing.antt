@@ -1,11 +1,16 @@
 -- The figures of a drill with so many readers, writes and reads (document 02, card 14), of the first register or of the counted one.
-use Rattle.std.specs.Prelude.{ℕ, ◌+◌, ◌-◌, ◌*◌, min, max, Bool, ◌&&◌, [], ◌∷◌, leb}
+use Rattle.std.specs.Prelude.{ℕ, ◌+◌, ◌-◌, ◌*◌, min, max, Bool, ◌&&◌, [], ◌∷◌, leb, Result, Ok, Err}
 use Rattle.words.specs.Choice.{pick}
 use Rattle.common.specs.Answers.{Reply, refusal_number}
 use Rattle.common.specs.declared.Refusal.TheVariants.{Readers}
 use Rattle.common.specs.SetUp.{readers_fit}
-use Rattle.figures.specs.declared.Sizing.{Sizing}
-use Rattle.figures.specs.declared.Sizing.TheVariants.{Refused, Larger, TooLong, Sized}
+use Rattle.figures.specs.declared.Figures.{Figures}
+use Rattle.figures.specs.declared.NoFigures.{NoFigures}
+use Rattle.figures.specs.declared.NoFigures.TheVariants.{Refused, Larger, TooLong}
+
+-- an answer: the figures, or why there are none
+abbrev pub Sizing : Type 0
+Sizing = Result Figures NoFigures
 
 -- "the log rows with which no begin is refused 7": row 0, and two for each operation; set-up takes no fewer than 3
 unfoldable pub rows_for : ℕ → ℕ → ℕ
@@ -42,18 +47,18 @@ size_of counted n writes reads =
     pick (readers_fit n)
     (pick (leb writes most_of && leb reads most_of)
     (pick (leb (rows_for writes reads) most_rows)
-    (Sized (record {
+    (Ok (record {
       rows = rows_for writes reads;
       least = least_words counted n writes reads;
       most = most_words counted n writes reads;
     }))
-    TooLong)
-    Larger)
-    Refused
+    (Err TooLong))
+    (Err Larger))
+    (Err Refused)
 
 -- the number of an answer, 0 where it is no refusal, and its values: the figures, or the limit that was passed
 abbrev pub sizing_reply : Sizing → Reply
-sizing_reply Refused = record { number = refusal_number Readers; values = [] }
-sizing_reply Larger = record { number = 0; values = most_of ∷ [] }
-sizing_reply TooLong = record { number = 0; values = most_rows ∷ [] }
-sizing_reply (Sized f) = record { number = 0; values = f.rows ∷ f.least ∷ f.most ∷ [] }
+sizing_reply (Err Refused) = record { number = refusal_number Readers; values = [] }
+sizing_reply (Err Larger) = record { number = 0; values = most_of ∷ [] }
+sizing_reply (Err TooLong) = record { number = 0; values = most_rows ∷ [] }
+sizing_reply (Ok f) = record { number = 0; values = f.rows ∷ f.least ∷ f.most ∷ [] }

@@ -10,11 +10,10 @@ pub struct Figures {
     pub most: u32,
 }
 
-// Refused is question 1's no. Larger: more than 2,000 writes or reads. TooLong: more rows than 4,096.
-#[derive(Clone, Copy)]
-pub enum Sizing {
+// Why there are none. Refused is question 1's no. Larger: more than 2,000 writes or reads. TooLong: more rows than 4,096.
+#[derive(Clone, Copy, Debug, PartialEq, Eq)]
+pub enum NoFigures {
     Refused,
     Larger,
     TooLong,
-    Sized(Figures),
 }

@@ -1,36 +1,46 @@
 -- What the functions of the program find: strips in arrays that have places for every log.
-use Prim.Native.Nat.{ℕ, ◌≤◌, ◌<◌, ◌+◌, ◌-◌, ◌/◌, ◌%◌}
+use Prim.Native.Nat.{ℕ, ◌≤◌, ◌<◌, ◌+◌, ◌-◌, ◌%◌}
 use native.Mathlib.Omega.{arith}
 use mathlib.Core.Path.{◌≡◌, refl, sym, ap, subst, ◌∙◌}
 use mathlib.Core.Logic.{◌≢◌}
 use mathlib.Core.Bool.{true, false}
-use mathlib.Core.List.{List, [], ◌∷◌, ◌++◌}
+use mathlib.Core.List.{List, ◌++◌}
 use lib.Dec.{eqb, leb, eqb→eq, leb→le}
-use lib.ListN.{length, get_or, take, drop, replicate, length-drop, length-replicate}
-use lib.Seq.{length-take-le, get_or-take, take_all, drop-drop}
+use lib.ListN.{length, take, drop, replicate, length-drop, length-replicate}
+use lib.Seq.{take_all, drop-drop}
 use borrow.Author.Tests.{eq-eqb, ne_eqb, le-leb, lt-leb}
+use Rattle.std.specs.Prelude.{Result, Ok, Err}
 use Rattle.words.proofs.Laws.Choice.{left, right}
-use Rattle.logbytes.specs.Bytes.{word_at, read_rows, rows_of, rows_in, bytes_of}
+use Rattle.logbytes.specs.Bytes.{rows_of, rows_in, bytes_of}
 use Rattle.logbytes.proofs.Laws.{rows_whole}
 use Rattle.judging.specs.Meaning.{RightLength}
 use Rattle.judging.proofs.ByteLaws.{rows_front, rows_count}
 use Rattle.lines.specs.Lines.{Puts, Within}
 use Rattle.lines.proofs.Puts.{nothing, within, whole as all}
 use Rattle.storing.specs.Strips.{strip_bytes, strip_rows, log_of}
-use Rattle.storing.specs.Answer.{storing, Stored, restoring, Restored}
+use Rattle.storing.specs.Answer.{fault_number, storing, Stored, restoring, Restored}
 use Rattle.storing.specs.Meaning.{StoreSays, RestoreSays, says_0, says_9, says_10, says_11, says_16}
 use Rattle.storing.specs.File.{Written, file_of, count_in, bytes_in, rest_in, whole, refused, written, rows_file, log_file, restore_file}
+use Rattle.storing.specs.declared.Fault.{Fault}
+use Rattle.storing.specs.declared.Fault.TheVariants.{WrongLength, Malformed, NoRoom, Unmatched}
 use Rattle.storing.proofs.Answers.{storing_by, restoring_by}
 use Rattle.storing.proofs.FileBack.{restored_length}
 use Rattle.storing.proofs.Unique.{only_strips, only_log}
-use Rattle.files.specs.Made.{Made}
+use Rattle.files.specs.Made.{Made, put_count}
 
 -- nothing is put of a refusal, and all of what is written
-none_made : {w : Written} {k : ℕ} (o : List ℕ) → w ≡ refused k → Made w o o k 0
-none_made o e = rw e (record { number_is = refl; put = nothing o 0 })
+none_made : {w : Written} (o : List ℕ) (f : Fault) → w ≡ refused (fault_number f) → Made w o o (Err f)
+none_made o f e = rw e (record { number_is = refl; put = nothing o 0 })
 
-made : {w : Written} {l o o' : List ℕ} {k n : ℕ} → w ≡ written l → k ≡ 0 → Puts l 0 o o' n → Made w o o' k n
-made e z p = rw e (record { number_is = z; put = p })
+made : {w : Written} {l o o' : List ℕ} {n : ℕ} → w ≡ written l → Puts l 0 o o' n → Made w o o' (Ok n)
+made e p = rw e (record { number_is = refl; put = p })
+
+-- a fault's number is not 0
+some_number : (f : Fault) → fault_number f ≢ 0
+some_number WrongLength e = omega arith
+some_number Malformed e = omega arith
+some_number NoRoom e = omega arith
+some_number Unmatched e = omega arith
 
 -- the arrays as they are lent
 abbrev pub byte_array : List ℕ
@@ -43,13 +53,13 @@ abbrev pub long_array : List ℕ
 long_array = replicate 8192 0
 
 -- What was stored.
-module _ {rows b r : List ℕ} {k : ℕ} (S : Stored rows byte_array row_array b r k × StoreSays rows byte_array row_array b r k) where
+module _ {rows b r : List ℕ} {k : ℕ} (S : record { leaves : Stored rows byte_array row_array b r k; meaning : StoreSays rows byte_array row_array b r k }) where
   number : k ≡ storing rows 4095 4096 (λ j. j) 0
-  number = rw (length-replicate {A = ℕ} 4095 0, length-replicate {A = ℕ} 4096 0) at S.0.number
+  number = rw (length-replicate {A = ℕ} 4095 0, length-replicate {A = ℕ} 4096 0) at S.leaves.number
 
-  pub not_stored_lem : (o : List ℕ) → k ≢ 0 → Made (rows_file rows) o o k 0
+  pub not_stored_lem : (o : List ℕ) (f : Fault) → k ≡ fault_number f → Made (rows_file rows) o o (Err f)
   unfolding rows_file
-  not_stored_lem o n = none_made o (storing_by rows 4095 4096 refused _ k number ∙ rw (ne_eqb k 0 n))
+  not_stored_lem o f e = none_made o f (storing_by rows 4095 4096 refused _ k number ∙ rw (e, ne_eqb (fault_number f) 0 (some_number f)))
 
   -- the log has its rows, and its strips stand in front
   pub record InFront : Type 0 where
@@ -58,7 +68,7 @@ module _ {rows b r : List ℕ} {k : ℕ} (S : Stored rows byte_array row_array b
     pub rows_are : take (length rows) r ≡ strip_rows rows
 
   pub in_front : k ≡ 0 → InFront
-  in_front z = go S.1 z
+  in_front z = go S.meaning z
     where
       go : {j : ℕ} → StoreSays rows byte_array row_array b r j → j ≡ 0 → InFront
       go (says_0 F x y s) e =
@@ -68,27 +78,28 @@ module _ {rows b r : List ℕ} {k : ℕ} (S : Stored rows byte_array row_array b
       go (says_10 x y s t) e = absurd (omega arith)
       go (says_11 x y s t) e = absurd (omega arith)
 
-  pub all_stored : {o o' : List ℕ} {n : ℕ} → k ≡ 0 → Puts (file_of (take (length rows - 1) b) (take (length rows) r)) 0 o o' n → Made (rows_file rows) o o' k n
+  pub all_stored : {o o' : List ℕ} {n : ℕ} → k ≡ 0 → Puts (file_of (take (length rows - 1) b) (take (length rows) r)) 0 o o' n → Made (rows_file rows) o o' (Ok n)
   unfolding rows_file
   all_stored z p =
       let F = in_front z in
-      made (storing_by rows 4095 4096 refused _ k number ∙ rw (eq-eqb k 0 z)) z (rw (F.bytes_are, F.rows_are) at p)
+      made (storing_by rows 4095 4096 refused _ k number ∙ rw (eq-eqb k 0 z)) (rw (F.bytes_are, F.rows_are) at p)
 
 -- What was restored.
-module _ {bytes rows log : List ℕ} {k : ℕ} (R : Restored bytes rows row_array log k × RestoreSays bytes rows row_array log k) where
+module _ {bytes rows log : List ℕ} {k : ℕ} (R : record { leaves : Restored bytes rows row_array log k; meaning : RestoreSays bytes rows row_array log k }) where
   restored_number : k ≡ restoring bytes rows 4096 (λ j. j) 0
-  restored_number = rw (length-replicate {A = ℕ} 4096 0) at R.0.number
+  restored_number = rw (length-replicate {A = ℕ} 4096 0) at R.leaves.number
 
-  not_restored_lem : (l : List ℕ) → k ≢ 0 → Made (log_file bytes rows) l l k 0
+  not_restored_lem : (l : List ℕ) (f : Fault) → k ≡ fault_number f → Made (log_file bytes rows) l l (Err f)
   unfolding log_file
-  not_restored_lem l n = none_made l (restoring_by bytes rows 4096 refused _ k restored_number ∙ rw (ne_eqb k 0 n))
+  not_restored_lem l f e =
+      none_made l f (restoring_by bytes rows 4096 refused _ k restored_number ∙ rw (e, ne_eqb (fault_number f) 0 (some_number f)))
 
   record LogInFront : Type 0 where
     pub size : length rows ≤ 4096
     pub log_is : take (length rows) log ≡ log_of bytes rows
 
   log_in_front : k ≡ 0 → LogInFront
-  log_in_front z = go R.1 z
+  log_in_front z = go R.meaning z
     where
       go : {j : ℕ} → RestoreSays bytes rows row_array log j → j ≡ 0 → LogInFront
       go (says_0 M x F s) e = record { size = omega (arith, x.room, length-replicate {A = ℕ} 4096 0); log_is = only_log _ bytes rows F.size.some s }
@@ -97,26 +108,11 @@ module _ {bytes rows log : List ℕ} {k : ℕ} (R : Restored bytes rows row_arra
       go (says_10 x y l t u v) e = absurd (omega arith)
       go (says_11 x l t u v w) e = absurd (omega arith)
 
-  all_restored : {l l' : List ℕ} {n : ℕ} → k ≡ 0 → Puts (bytes_of (take (length rows) log)) 0 l l' n → Made (log_file bytes rows) l l' k n
+  all_restored : {l l' : List ℕ} {n : ℕ} → k ≡ 0 → Puts (bytes_of (take (length rows) log)) 0 l l' n → Made (log_file bytes rows) l l' (Ok n)
   unfolding log_file
-  all_restored z p = made (restoring_by bytes rows 4096 refused _ k restored_number ∙ rw (eq-eqb k 0 z)) z (rw (log_in_front z).log_is at p)
+  all_restored z p = made (restoring_by bytes rows 4096 refused _ k restored_number ∙ rw (eq-eqb k 0 z)) (rw (log_in_front z).log_is at p)
 
 -- The parts of a file.
-words_same : (b c : List ℕ) → ((i : ℕ) → i < 8 → get_or b i 0 ≡ get_or c i 0) → word_at b 0 ≡ word_at c 0
-words_same b c h =
-    rw (h 0 (omega arith), h 1 (omega arith), h 2 (omega arith), h 3 (omega arith), h 4 (omega arith), h 5 (omega arith), h 6 (omega arith), h 7 (omega arith))
-
-pub count_read : (f e : List ℕ) (r : ℕ) → 8 ≤ length f → (r ≡ length (rows_in (take 8 f) 1)) × (e ≡ rows_in (take 8 f) 1 ++ drop r (0 ∷ [])) → get_or e 0 0 ≡ count_in f
-unfolding rows_of read_rows
-count_read f e r a x =
-    let n : length (take 8 f) ≡ 8 = length-take-le 8 f a in
-    let d : length (take 8 f) / 8 ≡ 1 = omega arith in
-    let s : rows_in (take 8 f) 1 ≡ word_at (take 8 f) 0 ∷ [] =
-    rows_whole (take 8 f) 1 (omega arith) (omega arith) ∙ ap (λ (k : ℕ). read_rows k (take 8 f)) d in
-    ap (λ (l : List ℕ). get_or l 0 0) x.1
-    ∙ ap (λ (l : List ℕ). get_or (l ++ drop r (0 ∷ [])) 0 0) s
-    ∙ words_same (take 8 f) f (λ i h. get_or-take 8 f i 0 h)
-
 module _ (f : List ℕ) where
   pub too_short : length f < 8 → false ≡ whole f
   unfolding whole
@@ -168,23 +164,26 @@ module _ (f : List ℕ) where
       let n : length (rest_in f) ≡ length f - 8 - count_in f = omega (arith, W.head, W.room, length-drop 8 f, length-drop (count_in f) (drop 8 f)) in
       rw n (W.rows, omega arith)
 
-  pub file_long : {o : List ℕ} → 65536 < length f → Made (restore_file f) o o 9 0
+  pub file_long : {o : List ℕ} → 65536 < length f → Made (restore_file f) o o (Err WrongLength)
   unfolding restore_file
-  file_long {o} a = none_made o (rw (lt-leb (length f) 65536 a))
+  file_long {o} a = none_made o WrongLength (rw (lt-leb (length f) 65536 a))
 
-  pub file_apart : {o : List ℕ} → length f ≤ 65536 → whole f ≡ false → Made (restore_file f) o o 16 0
+  pub file_apart : {o : List ℕ} → length f ≤ 65536 → whole f ≡ false → Made (restore_file f) o o (Err Unmatched)
   unfolding restore_file
-  file_apart {o} a e = none_made o (rw (le-leb (length f) 65536 a, e))
+  file_apart {o} a e = none_made o Unmatched (rw (le-leb (length f) 65536 a, e))
 
-  pub file_made : {o o' : List ℕ} {j k n : ℕ} → length f ≤ 65536 → whole f ≡ true → j ≡ count_in f
-      → Made (log_file (take (8 + j - 8) (drop 8 f)) (rows_of (take (length f - (8 + j)) (drop (8 + j) f)))) o o' k n → Made (restore_file f) o o' k n
+  pub file_made : {o o' : List ℕ} {j : ℕ} {r : Result ℕ Fault} → length f ≤ 65536 → whole f ≡ true → j ≡ count_in f
+      → Made (log_file (take (8 + j - 8) (drop 8 f)) (rows_of (take (length f - (8 + j)) (drop (8 + j) f)))) o o' r → Made (restore_file f) o o' r
   unfolding restore_file
   file_made a e z m = rw (le-leb (length f) 65536 a, e) (rw (bytes_part z, rest_part z) at m)
 
   -- what stands in front of the lent bytes, and whole if there is room
-  pub filed : {o o' : List ℕ} {k n : ℕ} → Made (restore_file f) o o' k n
-      → Made (restore_file f) o o' k n × (Within n o' × (32768 ≤ length o → take n o' ≡ (restore_file f).bytes))
-  filed m = (m, (within m.put, λ room. all m.put (omega (arith, restored_length f, room))))
+  pub filed : {o o' : List ℕ} {r : Result ℕ Fault} → Made (restore_file f) o o' r → record {
+    made : Made (restore_file f) o o' r;
+    within : Within (put_count r) o';
+    whole : 32768 ≤ length o → take (put_count r) o' ≡ (restore_file f).bytes;
+  }
+  filed m = record { made = m; within = within m.put; whole = λ room. all m.put (omega (arith, restored_length f, room)) }
 
 -- The rows behind a file's bytes, read, and what was restored from them.
 module _ (rest : List ℕ) (size : (length rest % 8 ≡ 0) × (length rest ≤ 65536)) {e : List ℕ} {r : ℕ}
@@ -192,13 +191,13 @@ module _ (rest : List ℕ) (size : (length rest % 8 ≡ 0) × (length rest ≤ 6
   rest_rows : take r e ≡ rows_of rest
   rest_rows = rows_front rest long_array a ∙ rows_whole rest (length long_array) size.0 (omega (arith, length-replicate {A = ℕ} 8192 0))
 
-  module _ {bytes log : List ℕ} {k : ℕ} (R : Restored bytes (take r e) row_array log k × RestoreSays bytes (take r e) row_array log k) where
+  module _ {bytes log : List ℕ} {k : ℕ} (R : record { leaves : Restored bytes (take r e) row_array log k; meaning : RestoreSays bytes (take r e) row_array log k }) where
     pub few_rows : k ≡ 0 → r ≤ 4096
     few_rows z = omega (arith, (log_in_front R z).size, rows_count rest long_array a)
 
-    pub rest_refused : (o : List ℕ) → k ≢ 0 → Made (log_file bytes (rows_of rest)) o o k 0
-    rest_refused o n = rw rest_rows at (not_restored_lem R o n)
+    pub rest_refused : (o : List ℕ) (f : Fault) → k ≡ fault_number f → Made (log_file bytes (rows_of rest)) o o (Err f)
+    rest_refused o f n = rw rest_rows at (not_restored_lem R o f n)
 
-    pub rest_restored : {o o' : List ℕ} {n : ℕ} → k ≡ 0 → Puts (bytes_of (take r log)) 0 o o' n → Made (log_file bytes (rows_of rest)) o o' k n
+    pub rest_restored : {o o' : List ℕ} {n : ℕ} → k ≡ 0 → Puts (bytes_of (take r log)) 0 o o' n → Made (log_file bytes (rows_of rest)) o o' (Ok n)
     rest_restored {o} {o'} {n} z p =
         rw rest_rows at (all_restored R z (subst (λ (i : ℕ). Puts (bytes_of (take i log)) 0 o o' n) (rows_count rest long_array a) p))

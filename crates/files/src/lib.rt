@@ -3,63 +3,51 @@
 
 ghost use Rattle.std.specs.Prelude.{◌≡◌, ◌≤◌, ◌%◌, length, take};
 ghost use Rattle.logbytes.specs.Bytes.{rows_of, bytes_of};
-ghost use Rattle.lines.specs.Lines.{Puts, Within};
+ghost use Rattle.lines.specs.Lines.{Within};
+ghost use Rattle.lines.specs.Adds.{Adds};
 ghost use Rattle.storing.specs.File.{file_of, count_in, whole, rows_file, store_file, log_file, restore_file};
-ghost use Rattle.files.specs.Made.{Made};
+ghost use Rattle.files.specs.Made.{Made, put_count};
 
-use lines::{put_byte, put_text};
-use logbytes::{byte_at, rows_in};
-use store::rows::{restore_strips, store_strips};
-
-// A refusal's number, or 0, and how many bytes were put.
-#[derive(Clone, Copy)]
-pub struct Filed {
-    pub number: u32,
-    pub count: usize,
-}
+use lines::Sink;
+use logbytes::rows_in;
+use store::rows::{restore, store};
+use storing::Fault;
 
 // The bytes of rows.
-fn put_rows(out: &mut [u8], at: usize, rows: &[u64]) -> usize
-    ensures { Puts (bytes_of rows.now) at out.old out.new result }
+fn put_rows(out: &mut Sink, rows: &[u64])
+    ensures { Adds (bytes_of rows.now) out.old out.new }
 {
-    let mut end = at;
-    let mut k = 0;
-    while k / 8 < rows.len() {
-        end = put_byte(out, end, byte_at(rows, k));
-        k += 1;
+    for row in rows {
+        out.put_text(&row.to_be_bytes());
     }
-    end
 }
 
 // The bytes' count, the bytes, and the rows.
-fn put_file(out: &mut [u8], bytes: &[u8], rows: &[u64]) -> usize
-    ensures { Puts (file_of bytes.now rows.now) 0 out.old out.new result }
+fn put_file(out: &mut Sink, bytes: &[u8], rows: &[u64])
+    ensures { Adds (file_of bytes.now rows.now) out.old out.new }
 {
-    let count = [bytes.len() as u64];
-    let at = put_rows(out, 0, &count);
-    let end = put_text(out, at, bytes);
-    put_rows(out, end, rows)
+    put_rows(out, &[bytes.len() as u64]);
+    out.put_text(bytes);
+    put_rows(out, rows);
 }
 
-// The file of a log's rows.
-fn put_stored(out: &mut [u8], rows: &[u64]) -> Filed
-    ensures { Made (rows_file rows.now) out.old out.new result.number result.count }
+// The file of a log's rows: how many bytes were put.
+fn put_stored(out: &mut [u8], rows: &[u64]) -> Result<usize, Fault>
+    ensures { Made (rows_file rows.now) out.old out.new result }
 {
     let mut bytes = [0u8; 4095];
     let mut strips = [0u64; 4096];
-    let number = store_strips(rows, &mut bytes, &mut strips);
-    let mut count = 0;
-    if number == 0 {
-        count = put_file(out, &bytes[..rows.len() - 1], &strips[..rows.len()]);
-    }
-    Filed { number, count }
+    store(rows, &mut bytes, &mut strips)?;
+    let mut file = Sink { places: out, at: 0 };
+    put_file(&mut file, &bytes[..rows.len() - 1], &strips[..rows.len()]);
+    Ok(file.at)
 }
 
 // The file of a log's bytes. 36,871 bytes have room for every such file.
-pub fn store_file(log: &[u8], out: &mut [u8]) -> Filed
-    ensures made { Made (store_file log.now) out.old out.new result.number result.count }
-    ensures within { Within result.count out.new }
-    ensures whole { 36871 ≤ length out.old → take result.count out.new ≡ (store_file log.now).bytes }
+pub fn store_file(log: &[u8], out: &mut [u8]) -> Result<usize, Fault>
+    ensures made { Made (store_file log.now) out.old out.new result }
+    ensures within { Within (put_count result) out.new }
+    ensures whole { 36871 ≤ length out.old → take (put_count result) out.new ≡ (store_file log.now).bytes }
 {
     let mut rows = [0u64; 4096];
     let n = rows_in(log, &mut rows);
@@ -71,9 +59,9 @@ fn count_in(file: &[u8]) -> u64
     requires { 8 ≤ length file.now }
     ensures { result ≡ count_in file.now }
 {
-    let mut count = [0u64; 1];
-    rows_in(&file[..8], &mut count);
-    count[0]
+    let mut count = [0; 8];
+    count.copy_from_slice(&file[..8]);
+    u64::from_be_bytes(count)
 }
 
 // Whether a file can be taken apart: it has a count, so many bytes, and whole rows.
@@ -92,38 +80,30 @@ fn is_whole(file: &[u8]) -> bool
 }
 
 // The bytes of the log that strips give: their bytes, and their rows as bytes.
-fn put_restored(out: &mut [u8], bytes: &[u8], rest: &[u8]) -> Filed
+fn put_restored(out: &mut [u8], bytes: &[u8], rest: &[u8]) -> Result<usize, Fault>
     requires { (length rest.now % 8 ≡ 0) × (length rest.now ≤ 65536) }
-    ensures { Made (log_file bytes.now (rows_of rest.now)) out.old out.new result.number result.count }
+    ensures { Made (log_file bytes.now (rows_of rest.now)) out.old out.new result }
 {
     let mut rows = [0u64; 8192];
     let n = rows_in(rest, &mut rows);
     let mut log = [0u64; 4096];
-    let number = restore_strips(bytes, &rows[..n], &mut log);
-    let mut count = 0;
-    if number == 0 {
-        count = put_rows(out, 0, &log[..n]);
-    }
-    Filed { number, count }
+    restore(bytes, &rows[..n], &mut log)?;
+    let mut made = Sink { places: out, at: 0 };
+    put_rows(&mut made, &log[..n]);
+    Ok(made.at)
 }
 
 // The log's bytes of a file. 32,768 bytes have room for every log.
-pub fn restore_file(file: &[u8], out: &mut [u8]) -> Filed
-    ensures made { Made (restore_file file.now) out.old out.new result.number result.count }
-    ensures within { Within result.count out.new }
-    ensures whole { 32768 ≤ length out.old → take result.count out.new ≡ (restore_file file.now).bytes }
+pub fn restore_file(file: &[u8], out: &mut [u8]) -> Result<usize, Fault>
+    ensures made { Made (restore_file file.now) out.old out.new result }
+    ensures within { Within (put_count result) out.new }
+    ensures whole { 32768 ≤ length out.old → take (put_count result) out.new ≡ (restore_file file.now).bytes }
 {
     if 65536 < file.len() {
-        return Filed {
-            number: 9,
-            count: 0,
-        };
+        return Err(Fault::WrongLength);
     }
-    if is_whole(file) {} else {
-        return Filed {
-            number: 16,
-            count: 0,
-        };
+    if !is_whole(file) {
+        return Err(Fault::Unmatched);
     }
     let end = 8 + count_in(file) as usize;
     put_restored(out, &file[8..end], &file[end..])

@@ -9,25 +9,24 @@ ghost use Rattle.protocol.specs.Rules.{ticket_rules};
 ghost use Rattle.counted.specs.Rules.{counted_rules};
 ghost use Rattle.host.specs.Host.{result_word};
 
-use common::Answer;
-use common::numbers::refusal_number;
+use common::{Done, Refusal};
+use lists::Ran;
 
-// The number of an answer's refusal, or 0.
-fn number(a: Answer) -> u64
+// The number of an answer's refusal, or 0, as C is told it.
+fn number(a: Result<Done, Refusal>) -> u64
     ensures { (result ≡ number_of a) × (result ≤ 14) }
 {
     match a {
-        Answer::Accepted => 0,
-        Answer::Moved(k) => 0,
-        Answer::Refused(why) => refusal_number(why),
+        Ok(_) => 0,
+        Err(why) => u64::from(why),
     }
 }
 
 // The result's word.
-fn result_word(a: Answer, made: usize) -> u64
-    ensures { result ≡ number_of a * 2 ^ 32 + low 32 made }
+fn result_word(ran: Ran) -> u64
+    ensures { result ≡ number_of ran.answer * 2 ^ 32 + low 32 ran.calls.made }
 {
-    number(a) * 4294967296 + made as u64 % 4294967296
+    number(ran.answer) * 4294967296 + ran.calls.made as u64 % 4294967296
 }
 
 // A register of so many readers with a start reading, and the calls made on it (see lists::run). The result's upper half is
@@ -47,9 +46,7 @@ pub extern "C" fn register_run(
     ensures answers { answers.new ≡ (run_words_of ticket_rules readers start 0 calls.now table.old log.old answers.old).places }
 {
     let ran = lists::run(readers, start, calls, table, log, answers);
-    let answer = ran.answer;
-    let made = ran.calls.made;
-    result_word(answer, made)
+    result_word(ran)
 }
 
 // The same of the counted register, which has a fresh stamp too (see lists::run_counted).
@@ -69,7 +66,5 @@ pub extern "C" fn counted_run(
     ensures answers { answers.new ≡ (run_words_of counted_rules readers start fresh calls.now table.old log.old answers.old).places }
 {
     let ran = lists::run_counted(readers, start, fresh, calls, table, log, answers);
-    let answer = ran.answer;
-    let made = ran.calls.made;
-    result_word(answer, made)
+    result_word(ran)
 }

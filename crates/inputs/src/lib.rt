@@ -2,87 +2,47 @@
 // Inputs are numbered from 1, as the arguments are. The operating system's part is assumed, as the standard library says it.
 #![tactic(auto)]
 
-ghost use Rattle.std.specs.Prelude.{◌≡◌, ◌≤◌, length, replicate};
+ghost use Rattle.std.specs.Prelude.{◌≡◌, ℕ, ◌<◌, ◌≤◌, ◌^◌, List, length, IfSome};
 ghost use Rattle.inputs.specs.Counts.{IsPrefixLen};
 ghost use Rattle.words.specs.Same.{same};
+ghost use Rattle.lines.specs.Lines.{Puts};
 
 use std::env::{Env, FillError};
 use std::fmt::Display;
-use std::fs;
 use std::fs::Files;
-use std::io::{Eprint, Input as StandardInput, Read};
+use std::io::{Eprint, Input as StandardInput, Print, Read};
+use std::{fs, io};
 
-// What was read: whether there is such an input, and how many bytes are its.
-#[derive(Clone, Copy)]
-pub struct Input {
-    pub found: bool,
-    pub count: usize,
-}
+// As many bytes as are read of a log: one more than it may have, so that a longer one is seen to be longer.
+pub const LOG: usize = 32769;
+
+// The same of an input of the bench, of a drill or of a sizing.
+pub const TEXT: usize = 65537;
 
 // Whether two texts are the same.
 pub fn is_same(text: &[u8], word: &[u8]) -> bool
     ensures { result ≡ same text.now word.now }
 {
-    if text.len() != word.len() {
-        return false;
-    }
-    let mut i = 0;
-    while i < text.len() {
-        if text[i] != word[i] {
-            return false;
-        }
-        i += 1;
-    }
-    true
+    text == word
 }
 
-// Room for a log as bytes, and for one byte more, so that a longer one is seen to be longer.
-pub fn log_bytes() -> [u8; 32769]
-    ensures zeros { result ≡ replicate 32769 0 }
-    ensures length { 32769 ≡ length result }
-{
-    [0; 32769]
-}
-
-// The same for an input of the bench, of a drill or of a sizing.
-pub fn text_bytes() -> [u8; 65537]
-    ensures zeros { result ≡ replicate 65537 0 }
-    ensures length { 65537 ≡ length result }
-{
-    [0; 65537]
-}
-
-// Room for an argument: no path is longer.
-fn argument_bytes() -> [u8; 4096]
-    ensures { 4096 ≡ length result }
-{
-    [0; 4096]
-}
-
-// Reads until the bytes are full, the input ends or a read fails: how many are read.
+// Reads until the bytes are full, the input ends or a read fails: how many are read. A `while`, since each read says how far it goes.
 fn read_full<R: Read>(reader: &mut R, bytes: &mut [u8]) -> usize
     ensures { IsPrefixLen result bytes.new }
 {
     let mut done = 0;
     while done < bytes.len() {
         match reader.read(&mut bytes[done..]) {
-            Ok(0) => return done,
+            Ok(0) | Err(_) => break,
             Ok(n) => done += n,
-            Err(_) => return done,
         }
     }
     done
 }
 
-// No input: a line on standard error says what it is, and why.
-fn missing<R: Eprint, D: Display + Drop>(rt: &R, what: &str, why: D, bytes: &[u8]) -> Input
-    ensures { IsPrefixLen result.count bytes.now }
-{
+// A line on standard error: what is no input, and why.
+fn say_missing<R: Eprint, D: Display + Drop>(rt: &R, what: &str, why: D) {
     let _ = eprintln!(rt; "{what}: {why}");
-    Input {
-        found: false,
-        count: 0,
-    }
 }
 
 // What can be read from standard input: how many bytes, as many as there is room for.
@@ -93,29 +53,16 @@ pub fn read_standard<R: StandardInput>(rt: &R, bytes: &mut [u8]) -> usize
     read_full(&mut reader, bytes)
 }
 
-// Standard input, as an input.
-fn read_only<R: StandardInput>(rt: &R, bytes: &mut [u8]) -> Input
-    ensures { IsPrefixLen result.count bytes.new }
-{
-    let count = read_standard(rt, bytes);
-    Input {
-        found: true,
-        count: count,
-    }
-}
-
 // What can be read from a file.
-fn read_file<R: Files + Eprint>(rt: &R, path: &str, bytes: &mut [u8]) -> Input
-    ensures { IsPrefixLen result.count bytes.new }
+fn read_file<R: Files + Eprint>(rt: &R, path: &str, bytes: &mut [u8]) -> Option<usize>
+    ensures { IfSome result (λ n. IsPrefixLen n bytes.new) }
 {
-    let mut file = match fs::open(rt, path) {
-        Ok(file) => file,
-        Err(error) => return missing(rt, path, error, bytes),
-    };
-    let count = read_full(&mut file, bytes);
-    Input {
-        found: true,
-        count: count,
+    match fs::open(rt, path) {
+        Ok(mut file) => Some(read_full(&mut file, bytes)),
+        Err(error) => {
+            say_missing(rt, path, error);
+            None
+        }
     }
 }
 
@@ -124,38 +71,42 @@ fn read_argument<R: Env + Files + StandardInput + Eprint>(
     rt: &R,
     k: usize,
     bytes: &mut [u8],
-) -> Input
-    ensures { IsPrefixLen result.count bytes.new }
+) -> Option<usize>
+    ensures { IfSome result (λ n. IsPrefixLen n bytes.new) }
 {
-    let mut argument = argument_bytes();
-    let n = match rt.arg(k, &mut argument) {
-        Ok(n) => n,
-        Err(_) => return missing(rt, "argument", "there is none, or it is too long", bytes),
+    let mut argument = [0u8; 4096];
+    let Ok(n) = rt.arg(k, &mut argument) else {
+        say_missing(rt, "argument", "there is none, or it is too long");
+        return None;
     };
     if is_same(&argument[..n], b"-") {
-        return read_only(rt, bytes);
+        return Some(read_standard(rt, bytes));
     }
     match str::from_utf8(&argument[..n]) {
         Ok(path) => read_file(rt, path, bytes),
-        Err(error) => missing(rt, "argument", error, bytes),
+        Err(error) => {
+            say_missing(rt, "argument", error);
+            None
+        }
     }
 }
 
 // Whether there is an argument k.
 fn is_argument<R: Env>(rt: &R, k: usize) -> bool {
     let mut argument = [0u8; 1];
-    match rt.arg(k, &mut argument) {
-        Ok(_) | Err(FillError::TooLong) => true,
-        Err(FillError::NotPresent) => false,
-    }
+    !matches!(rt.arg(k, &mut argument), Err(FillError::NotPresent))
 }
 
-// Input k, as much of it as there are bytes for.
-pub fn read<R: Env + Files + StandardInput + Eprint>(rt: &R, k: usize, bytes: &mut [u8]) -> Input
-    ensures { IsPrefixLen result.count bytes.new }
+// Input k, as much of it as there are bytes for: how many bytes are its, if there is such an input.
+pub fn read<R: Env + Files + StandardInput + Eprint>(
+    rt: &R,
+    k: usize,
+    bytes: &mut [u8],
+) -> Option<usize>
+    ensures { IfSome result (λ n. IsPrefixLen n bytes.new) }
 {
     if !is_argument(rt, 1) {
-        return read_only(rt, bytes);
+        return Some(read_standard(rt, bytes));
     }
     read_argument(rt, k, bytes)
 }
@@ -164,10 +115,50 @@ pub fn read<R: Env + Files + StandardInput + Eprint>(rt: &R, k: usize, bytes: &m
 pub fn end<R: Env>(rt: &R) -> usize
     ensures { 2 ≤ result }
 {
-    for k in 2..usize::MAX {
-        if !is_argument(rt, k) {
-            return k;
+    (2..usize::MAX)
+        .find(|k| !is_argument(rt, *k))
+        .unwrap_or(usize::MAX)
+}
+
+// A program that prints something of each of its inputs, of which ROOM bytes are read.
+pub trait Prints<const ROOM: usize, const SIZE: usize> {
+    // What is printed of an input's bytes.
+    ghost said: { List ℕ → List ℕ };
+
+    // Puts it at the front of the lent bytes, as far as they go: how many bytes are put.
+    fn print(bytes: &[u8], out: &mut [u8]) -> usize
+        ensures print { Puts (said bytes.now) 0 out.old out.new result }
+        ensures within { IsPrefixLen result out.new };
+
+    // Lent are SIZE bytes, and no print is longer.
+    ghost short: { (bytes : List ℕ) → length (said bytes) ≤ SIZE };
+
+    // There are arrays of so many bytes.
+    ghost room_fits: { ROOM < 2 ^ 63 };
+
+    ghost size_fits: { SIZE < 2 ^ 63 };
+
+    // Writes the print of each input. No clause can say what a terminal is given.
+    final fn print_each<R: Env + Files + StandardInput + Eprint + Print>(rt: &R) -> io::Result<()> {
+        for k in 1..end(rt) {
+            print_input::<ROOM, SIZE, Self, R>(rt, k)?;
         }
+        Ok(())
     }
-    usize::MAX
+}
+
+// Writes the print of input k.
+fn print_input<
+    const ROOM: usize,
+    const SIZE: usize,
+    P: Prints<ROOM, SIZE>,
+    R: Env + Files + StandardInput + Eprint + Print,
+>(rt: &R, k: usize) -> io::Result<()> {
+    let mut bytes = [0; ROOM];
+    if let Some(count) = read(rt, k, &mut bytes) {
+        let mut out = [0; SIZE];
+        let n = P::print(&bytes[..count], &mut out);
+        rt.write_all(&out[..n])?;
+    }
+    Ok(())
 }

@@ -3,7 +3,7 @@ use Rattle.std.specs.Prelude.{ℕ, ◌≡◌, List, take}
 use Rattle.history.specs.Regular.{IsAtomic}
 use Rattle.history.specs.Shrinking.{IsAtomicRun}
 use Rattle.judging.specs.Answer.{number_of}
-use Rattle.common.specs.Calls.{Call}
+use Rattle.common.specs.declared.calls.Call.{Call}
 use Rattle.common.specs.Rules.{Rules}
 use Rattle.common.specs.Register.{ran_from}
 

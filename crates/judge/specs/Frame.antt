@@ -113,6 +113,8 @@ of_rows =
     ∷ "judge::row::is_begin"
     ∷ "judge::row::open_after"
     ∷ "judge::sweep::first_missing"
+    ∷ "judge::sweep::Sweep::new"
+    ∷ "judge::sweep::Sweep::pass"
     ∷ "judge::sweep::row_place"
     ∷ "judge::sweep::seek"
     ∷ "judge::sweep::is_source"

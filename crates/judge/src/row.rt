@@ -26,15 +26,13 @@ pub fn processor(row: u64) -> usize
     (row / PROCESSOR % 256) as usize
 }
 
-// The kind of a row by what it tells: a read's end is 4, with a result or with a band.
+// The kind of a row by what it tells: a read's end is 4, with a result or with a band. No enum: `kind_of` of history/specs/Rows, by which all
+// definitions go, is the papers' number.
 pub fn kind(row: u64) -> u64
     ensures { result ≡ kind_of row }
 {
     let bits = row / KIND % 16;
-    if bits == BAND {
-        return 4;
-    }
-    bits
+    if bits == BAND { 4 } else { bits }
 }
 
 // Whether a read that this row ends may stand behind a write of v: v is its result, or lies within its band, ends included.
@@ -43,9 +41,10 @@ pub(crate) fn suits_read(row: u64, v: u64) -> bool
 {
     let value = row % 0x1_0000_0000;
     if row / KIND % 16 == BAND {
-        return (value / HALF <= v) & (v <= value % HALF);
+        value / HALF <= v && v <= value % HALF
+    } else {
+        v == value
     }
-    v == value
 }
 
 // Whether a row is a begin.
@@ -53,18 +52,13 @@ pub(crate) fn is_begin(row: u64) -> bool
     ensures { result ≡ begins row }
 {
     let told = kind(row);
-    if told == 1 {
-        return true;
-    }
-    told == 3
+    told == 1 || told == 3
 }
 
-// The begin row of a processor's open operation after its row k, or 0.
+// The begin row of a processor's open operation after its row k, or 0. No Option: row 0 begins nothing, and the definition, `open_after` of
+// judging/specs/Rowwise, tells none by it.
 pub fn open_after(row: u64, k: usize) -> usize
     ensures { result ≡ open_after row k }
 {
-    if is_begin(row) {
-        return k;
-    }
-    0
+    if is_begin(row) { k } else { 0 }
 }

@@ -2,7 +2,7 @@
 ghost use Rattle.std.specs.Prelude.{◌≡◌, ◌<◌, ◌≤◌, ◌^◌, ltb, length, get_or};
 ghost use Rattle.words.specs.Bits.{low};
 ghost use Rattle.history.specs.Listing.{listing};
-ghost use Rattle.judging.specs.Answer.{right_length, count_after, begins_to, answer, answer_word, settled_of, answer_of, order_of, number_of};
+ghost use Rattle.judging.specs.Answer.{right_length, count_after, begins_to, answer, unlisted, answer_word, settled_of, answer_of, order_of, number_of};
 ghost use Rattle.judging.specs.Keys.{Put};
 ghost use Rattle.judging.specs.Meaning.{Means};
 
@@ -10,13 +10,13 @@ use super::formed::well_formed;
 use super::order::{decode_all, put_keys};
 use super::row::is_begin;
 use super::sweep::first_missing;
-use judging::Verdict;
+use judging::Fault;
 
 // Question 9.
 pub fn right_length(n: usize) -> bool
     ensures { result ≡ right_length n }
 {
-    (1 <= n) & (n <= 4096)
+    1 <= n && n <= 4096
 }
 
 // One more, if the row is a begin.
@@ -24,10 +24,7 @@ fn count_after(row: u64, n: usize) -> usize
     requires { n < 2 ^ 63 }
     ensures { result ≡ count_after row n }
 {
-    if is_begin(row) {
-        return n + 1;
-    }
-    n
+    if is_begin(row) { n + 1 } else { n }
 }
 
 // The number of begin rows.
@@ -36,10 +33,8 @@ fn count_begins(rows: &[u64]) -> usize
     ensures { result ≡ begins_to rows.now (length rows.now) }
 {
     let mut n = 0;
-    let mut k = 1;
-    while k < rows.len() {
+    for k in 1..rows.len() {
         n = count_after(rows[k], n);
-        k += 1;
     }
     n
 }
@@ -49,31 +44,27 @@ fn lacks_room(rows: &[u64], places: usize) -> bool
     requires { 1 ≤ length rows.now }
     ensures { result ≡ ltb places (begins_to rows.now (length rows.now)) }
 {
-    if rows.len() <= places {
-        return false;
-    }
-    places < count_begins(rows)
+    places < rows.len() && places < count_begins(rows)
 }
 
-// Questions 9 to 12, of the rows and the number of places: accepted, with no operation listed yet, if none is answered no.
+// Questions 9 to 12, of the rows and the number of places: a fault, if one is answered no.
 // No place is lent here, so that all is settled before one is written.
-pub fn settle(rows: &[u64], places: usize) -> Verdict
-    ensures { answer result ≡ settled_of rows.now places }
+pub fn settle(rows: &[u64], places: usize) -> Result<(), Fault>
+    ensures { unlisted result ≡ settled_of rows.now places }
 {
-    if right_length(rows.len()) {} else {
-        return Verdict::WrongLength;
+    if !right_length(rows.len()) {
+        return Err(Fault::WrongLength);
     }
-    if well_formed(rows) {} else {
-        return Verdict::Malformed;
+    if !well_formed(rows) {
+        return Err(Fault::Malformed);
     }
     if lacks_room(rows, places) {
-        return Verdict::NoRoom;
+        return Err(Fault::NoRoom);
     }
-    let m = first_missing(rows);
-    if m < rows.len() {
-        return Verdict::NoOrder(m);
+    match first_missing(rows) {
+        Some(row) => Err(Fault::NoOrder(row)),
+        None => Ok(()),
     }
-    Verdict::Accepted(0)
 }
 
 // Writes the order of a log that has one, and gives the number of its operations.
@@ -86,33 +77,30 @@ fn write_order(rows: &[u64], order: &mut [u64]) -> usize
     count
 }
 
-// The verdict, and the order in the lent places.
-pub fn judge(rows: &[u64], order: &mut [u64]) -> Verdict
+// The verdict, and the order in the lent places: of how many operations it is, or why there is none.
+pub fn judge(rows: &[u64], order: &mut [u64]) -> Result<usize, Fault>
     ensures answer { answer result ≡ answer_of rows.now (length order.old) }
     ensures order { order.new ≡ order_of rows.now order.old }
     ensures meaning { Means rows.now order.old order.new result }
 {
-    let settled = settle(rows, order.len());
-    if let Verdict::Accepted(_) = settled {
-        return Verdict::Accepted(write_order(rows, order));
+    // Not `?`, which calls functions of its own: theorem `settles_first`.
+    match settle(rows, order.len()) {
+        Ok(()) => Ok(write_order(rows, order)),
+        Err(fault) => Err(fault),
     }
-    settled
 }
 
-// The number of a verdict.
-fn number_of(verdict: Verdict) -> u32
-    ensures { result ≡ (answer verdict).number }
+// The number of the question that is answered no, or 0.
+fn number_of<T: Drop>(found: Result<T, Fault>) -> u32
+    ensures { result ≡ (unlisted found).number }
 {
-    match verdict {
-        Verdict::Accepted(_) => 0,
-        Verdict::WrongLength => 9,
-        Verdict::Malformed => 10,
-        Verdict::NoRoom => 11,
-        Verdict::NoOrder(_) => 12,
+    match found {
+        Ok(_) => 0,
+        Err(fault) => fault.number(),
     }
 }
 
-// The number of the question answered no, or 0, without an order buffer: as many places as rows are enough.
+// That number without an order buffer: as many places as rows are enough.
 pub(crate) fn number(rows: &[u64]) -> u32
     ensures { result ≡ number_of rows.now }
 {
@@ -120,15 +108,12 @@ pub(crate) fn number(rows: &[u64]) -> u32
 }
 
 // The value of a verdict, the order's length or the begin row, or 0; its lower half.
-fn value_of(verdict: Verdict) -> u64
+fn value_of(verdict: Result<usize, Fault>) -> u64
     ensures { result ≡ low 32 (get_or (answer verdict).values 0 0) }
 {
     match verdict {
-        Verdict::Accepted(n) => n as u64 % 4294967296,
-        Verdict::WrongLength => 0,
-        Verdict::Malformed => 0,
-        Verdict::NoRoom => 0,
-        Verdict::NoOrder(row) => row as u64 % 4294967296,
+        Ok(n) | Err(Fault::NoOrder(n)) => n as u64 % 4294967296,
+        Err(_) => 0,
     }
 }
 

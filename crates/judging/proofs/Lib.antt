@@ -6,7 +6,6 @@ pub mod Linked
 pub mod Asked
 pub mod Places
 pub mod Room
-pub mod Loops
 pub mod Sorted
 pub mod KeyCode
 pub mod Keyed

@@ -7,6 +7,7 @@ use mathlib.Core.List.{List}
 use lib.Dec.{eqb}
 use lib.ListN.{length, get_or, take, drop}
 use lib.Seq.{drop_at}
+use Rattle.std.specs.Prelude.{Result, Ok, Err}
 use Rattle.words.specs.Choice.{pick}
 use Rattle.words.proofs.Laws.Choice.{eq_ind, T-left}
 use Rattle.logbytes.specs.Bytes.{rows_of}
@@ -20,10 +21,10 @@ use Rattle.history.proofs.Built.{read→}
 use Rattle.history.proofs.WellFormed.{laws}
 use Rattle.history.proofs.Verdict.{before_missing, none_with}
 use Rattle.history.proofs.Theorems.{at_most_one, has_earliest, ordered_if_swept, two_definitions, serial_shrinking}
-use Rattle.judging.specs.Answer.{Answer, answer, begins_to, answer_of, laid, order_of, number_of, bytes_number}
+use Rattle.judging.specs.Answer.{Answer, refusal, answer, begins_to, answer_of, laid, order_of, number_of, bytes_number}
 use Rattle.judging.specs.Meaning.{RightLength, Formed, Roomy, BothReports, No12, Yes, Means, Ordered, BytesSay, says_0, says_9, says_10, says_12, BytesMean}
-use Rattle.judging.specs.declared.Verdict.{Verdict}
-use Rattle.judging.specs.declared.Verdict.TheVariants.{Accepted, WrongLength, Malformed, NoRoom, NoOrder}
+use Rattle.judging.specs.declared.Fault.{Fault}
+use Rattle.judging.specs.declared.Fault.TheVariants.{WrongLength, Malformed, NoRoom, NoOrder}
 use Rattle.judging.proofs.Asked.{tested, untested, Asked, no9, no10, no11, no12, none, ask, cases_are, question_of, asked_number}
 use Rattle.judging.proofs.Places.{laid_take}
 
@@ -35,23 +36,29 @@ missing_read log a =
     (T-left (is_read (history_of log) (missing (history_of log))) _ (first_passes (fails (history_of log)) 0 (length log) (omega arith)))
 
 -- An answer has one verdict.
-verdict_of : Answer → Verdict
+verdict_of : Answer → Result ℕ Fault
 verdict_of x =
-    pick (eqb x.number 9) WrongLength
-    (pick (eqb x.number 10) Malformed
-    (pick (eqb x.number 11) NoRoom
-    (pick (eqb x.number 12) (NoOrder (get_or x.values 0 0)) (Accepted (get_or x.values 0 0)))))
+    pick (eqb x.number 9) (Err WrongLength)
+    (pick (eqb x.number 10) (Err Malformed)
+    (pick (eqb x.number 11) (Err NoRoom)
+    (pick (eqb x.number 12) (Err (NoOrder (get_or x.values 0 0))) (Ok (get_or x.values 0 0)))))
 
-verdict_back : (v : Verdict) → verdict_of (answer v) ≡ v
+verdict_back : (v : Result ℕ Fault) → verdict_of (answer v) ≡ v
 unfolding verdict_of
-verdict_back (Accepted n) = refl
-verdict_back WrongLength = refl
-verdict_back Malformed = refl
-verdict_back NoRoom = refl
-verdict_back (NoOrder r) = refl
+verdict_back (Ok n) = refl
+verdict_back (Err WrongLength) = refl
+verdict_back (Err Malformed) = refl
+verdict_back (Err NoRoom) = refl
+verdict_back (Err (NoOrder r)) = refl
 
-pub one_verdict : (v w : Verdict) → answer v ≡ answer w → v ≡ w
+pub one_verdict : (v w : Result ℕ Fault) → answer v ≡ answer w → v ≡ w
 one_verdict v w e = sym (verdict_back v) ∙ ap verdict_of e ∙ verdict_back w
+
+pub one_fault : (f g : Fault) → refusal f ≡ refusal g → f ≡ g
+one_fault f g e =
+    let v : Result ℕ Fault = Err f in
+    let w : v ≡ Err g = one_verdict v (Err g) e in
+    cc
 
 -- "Two definitions, one verdict": where 0 is the number of the logs with an order, it is that of the logs that are atomic by either report.
 by_reports : (log : List ℕ) → Formed log → (k : ℕ) → (k ≡ 0) ↔ ((l : List ℕ) × Orders log l) → BothReports log k
@@ -99,29 +106,29 @@ module _ (log o : List ℕ) where
         beyond = ap (drop (length (listing log))) e ∙ beyond_laid (listing log);
       }
 
-  means_asked : Asked log (length o) → (v : Verdict) → answer v ≡ answer_of log (length o) → Means log o (order_of log o) v
+  means_asked : Asked log (length o) → (v : Result ℕ Fault) → answer v ≡ answer_of log (length o) → Means log o (order_of log o) v
   unfolding answer_of order_of
   means_asked (no9 a) v e =
-      rw (one_verdict v WrongLength (e ∙ cases_are log _ _ _ _ (no9 a))) (record { size = a; same = cases_are log _ _ _ _ (no9 a) })
+      rw (one_verdict v (Err WrongLength) (e ∙ cases_are log _ _ _ _ (no9 a))) (record { size = a; same = cases_are log _ _ _ _ (no9 a) })
   means_asked (no10 r w) v e =
-      rw (one_verdict v Malformed (e ∙ cases_are log _ _ _ _ (no10 r w)))
+      rw (one_verdict v (Err Malformed) (e ∙ cases_are log _ _ _ _ (no10 r w)))
       (record { size = r; malformed = untested w; same = cases_are log _ _ _ _ (no10 r w) })
   means_asked (no11 F a) v e =
-      rw (one_verdict v NoRoom (e ∙ cases_are log _ _ _ _ (no11 F a))) (record { log_ok = F; room = a; same = cases_are log _ _ _ _ (no11 F a) })
+      rw (one_verdict v (Err NoRoom) (e ∙ cases_are log _ _ _ _ (no11 F a))) (record { log_ok = F; room = a; same = cases_are log _ _ _ _ (no11 F a) })
   means_asked (no12 F a b) v e =
-      rw (one_verdict v (NoOrder _) (e ∙ cases_are log _ _ _ _ (no12 F a b)))
+      rw (one_verdict v (Err (NoOrder _)) (e ∙ cases_are log _ _ _ _ (no12 F a b)))
       (means_12 (record { log_ok = F; room = a }) b (cases_are log _ _ _ _ (no12 F a b)))
   means_asked (none F a b) v e =
-      rw (one_verdict v (Accepted _) (e ∙ cases_are log _ _ _ _ (none F a b)))
+      rw (one_verdict v (Ok _) (e ∙ cases_are log _ _ _ _ (none F a b)))
       (means_yes (record { log_ok = F; room = a }) b (cases_are log _ _ _ _ (none F a b)))
 
 -- What the judge says: a verdict with its answer, the places e that the places o have become, and what it means.
-abbrev pub Says : List ℕ → List ℕ → List ℕ → Verdict → Type 0
-Says log o e v = (answer v ≡ answer_of log (length o)) × ((e ≡ order_of log o) × Means log o e v)
+abbrev pub Says : List ℕ → List ℕ → List ℕ → Result ℕ Fault → Type 0
+Says log o e v = record { answer : answer v ≡ answer_of log (length o); order : e ≡ order_of log o; meaning : Means log o e v }
 
 -- the last follows from the others
-pub says : (log o e : List ℕ) (v : Verdict) → answer v ≡ answer_of log (length o) → e ≡ order_of log o → Says log o e v
-says log o e v a b = (a, (b, rw b (means_asked log o (ask log (length o)) v a)))
+pub says : (log o e : List ℕ) (v : Result ℕ Fault) → answer v ≡ answer_of log (length o) → e ≡ order_of log o → Says log o e v
+says log o e v a b = record { answer = a; order = b; meaning = rw b (means_asked log o (ask log (length o)) v a) }
 
 pub number_is : (log : List ℕ) (n : ℕ) (a : Asked log n) → (answer_of log n).number ≡ question_of a
 unfolding answer_of
@@ -179,5 +186,5 @@ bytes_mean b = eq_ind (BytesMean b) (length b % 8) 0 _ _
     })
     (λ n. record { says = says_9 (λ B. n B.whole); reports = λ B F. absurd (n B.whole) })
 
-pub bytes_says : (b : List ℕ) (r : ℕ) → r ≡ bytes_number b → (r ≡ bytes_number b) × BytesMean b r
-bytes_says b r e = (e, subst (λ (k : ℕ). BytesMean b k) (sym e) (bytes_mean b))
+pub bytes_says : (b : List ℕ) (r : ℕ) → r ≡ bytes_number b → record { number : r ≡ bytes_number b; meaning : BytesMean b r }
+bytes_says b r e = record { number = e; meaning = subst (λ (k : ℕ). BytesMean b k) (sym e) (bytes_mean b) }

@@ -62,12 +62,6 @@ module _ (log : List ℕ) where
   unfolding next_state
   missing_next k a = ap (λ (s : Sweep). s.missing) (sweep_suc k a)
 
-  -- The code's row_place, where its arrays are the state's.
-  pub place_is : (k p : ℕ) (bs fs : List ℕ) → p ≡ processor_of (get_or log k 0) → bs ≡ (sweep_to log k).begins → fs ≡ (sweep_to log k).floors
-      → place_row log k (get_or bs p 0) (get_or fs p 0) ≡ row_place log (sweep_to log k) k
-  unfolding row_place
-  place_is k p bs fs e x y = rw (e, x, y)
-
   -- Where there is no row, nothing is raised.
   pub place_outside : (k b f : ℕ) → length log ≤ k → 0 ≡ place_row log k b f
   unfolding place_row kind_of

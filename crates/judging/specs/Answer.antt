@@ -1,5 +1,5 @@
 -- The judge's answer: questions 9 to 12 in their order.
-use Rattle.std.specs.Prelude.{ℕ, ◌+◌, ◌*◌, ◌%◌, ◌^◌, Bool, ◌&&◌, List, [], ◌∷◌, ◌++◌, eqb, leb, ltb, length, get_or, drop}
+use Rattle.std.specs.Prelude.{ℕ, ◌+◌, ◌*◌, ◌%◌, ◌^◌, Bool, ◌&&◌, List, [], ◌∷◌, ◌++◌, Result, Ok, Err, eqb, leb, ltb, length, get_or, drop}
 use Rattle.words.specs.Choice.{pick}
 use Rattle.words.specs.Bits.{low}
 use Rattle.logbytes.specs.Bytes.{rows_of}
@@ -9,8 +9,8 @@ use Rattle.history.specs.History.{history_of}
 use Rattle.history.specs.Sweep.{missing}
 use Rattle.history.specs.Listing.{listing}
 use Rattle.judging.specs.Fold.{up_to}
-use Rattle.judging.specs.declared.Verdict.{Verdict}
-use Rattle.judging.specs.declared.Verdict.TheVariants.{Accepted, WrongLength, Malformed, NoRoom, NoOrder}
+use Rattle.judging.specs.declared.Fault.{Fault}
+use Rattle.judging.specs.declared.Fault.TheVariants.{WrongLength, Malformed, NoRoom, NoOrder}
 
 -- document 01's number of an answer, 0 for an order, and the values that come with it
 pub record Answer : Type 0 where
@@ -28,13 +28,22 @@ no_order r = record { number = 12; values = r ∷ [] }
 abbrev pub accepted : ℕ → Answer
 accepted n = record { number = 0; values = n ∷ [] }
 
--- the answer that a verdict stands for
-abbrev pub answer : Verdict → Answer
-answer (Accepted n) = accepted n
-answer WrongLength = refused 9
-answer Malformed = refused 10
-answer NoRoom = refused 11
-answer (NoOrder r) = no_order r
+-- the answer that a fault stands for
+abbrev pub refusal : Fault → Answer
+refusal WrongLength = refused 9
+refusal Malformed = refused 10
+refusal NoRoom = refused 11
+refusal (NoOrder r) = no_order r
+
+-- the answer that a verdict stands for: an order of so many operations, or a fault
+abbrev pub answer : Result ℕ Fault → Answer
+answer (Ok n) = accepted n
+answer (Err f) = refusal f
+
+-- the answer where no operation is listed
+abbrev pub unlisted : {A : Type 0} → Result A Fault → Answer
+unlisted (Ok _) = accepted 0
+unlisted (Err f) = refusal f
 
 -- an answer as a word, for a host in C: the number above, the value below, of which the lower half fits; 0 where there is none
 abbrev pub answer_word : Answer → ℕ

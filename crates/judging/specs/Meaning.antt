@@ -1,5 +1,5 @@
 -- What the judge's verdict means, in the words of documents 01 and 02.
-use Rattle.std.specs.Prelude.{ℕ, ◌%◌, ◌≤◌, ◌<◌, ◌≡◌, ◌↔◌, List, length, take, drop}
+use Rattle.std.specs.Prelude.{ℕ, ◌%◌, ◌≤◌, ◌<◌, ◌≡◌, ◌↔◌, List, Result, Ok, Err, length, take, drop}
 use Rattle.logbytes.specs.Bytes.{rows_of}
 use Rattle.history.specs.Form.{LogFormed}
 use Rattle.history.specs.History.{history_of, Read}
@@ -8,8 +8,8 @@ use Rattle.history.specs.Earliest.{Earliest}
 use Rattle.history.specs.Regular.{IsAtomic}
 use Rattle.history.specs.Shrinking.{IsAtomicRun}
 use Rattle.judging.specs.Answer.{answer, begins_to}
-use Rattle.judging.specs.declared.Verdict.{Verdict}
-use Rattle.judging.specs.declared.Verdict.TheVariants.{Accepted, WrongLength, Malformed, NoRoom, NoOrder}
+use Rattle.judging.specs.declared.Fault.{Fault}
+use Rattle.judging.specs.declared.Fault.TheVariants.{WrongLength, Malformed, NoRoom, NoOrder}
 
 -- "1 to 4,096 rows (9)?"
 pub record RightLength (log : List ℕ) : Type 0 where
@@ -59,7 +59,7 @@ pub record No12 (log o e : List ℕ) (r : ℕ) : Type 0 where
   -- "it and those begun before it already have none"
   pub none : (m : ℕ) → r < m → (l : List ℕ) → Linearization (history_of log) m l → ⊥
   -- and it is atomic by neither report
-  pub reports : BothReports log (answer (NoOrder r)).number
+  pub reports : BothReports log (answer (Err (NoOrder r))).number
   pub same : e ≡ o
 
 -- Accepted, with n operations.
@@ -71,16 +71,16 @@ pub record Yes (log o e : List ℕ) (n : ℕ) : Type 0 where
   -- no other list is that
   pub only : (l : List ℕ) → Earliest (history_of log) l → l ≡ take n e
   -- and it is atomic by both reports
-  pub reports : BothReports log (answer (Accepted n)).number
+  pub reports : BothReports log (answer (Ok n)).number
   -- "places beyond are untouched"
   pub beyond : drop n e ≡ drop n o
 
-abbrev pub Means : List ℕ → List ℕ → List ℕ → Verdict → Type 0
-Means log o e (Accepted n) = Yes log o e n
-Means log o e WrongLength = No9 log o e
-Means log o e Malformed = No10 log o e
-Means log o e NoRoom = No11 log o e
-Means log o e (NoOrder r) = No12 log o e r
+abbrev pub Means : List ℕ → List ℕ → List ℕ → Result ℕ Fault → Type 0
+Means log o e (Ok n) = Yes log o e n
+Means log o e (Err WrongLength) = No9 log o e
+Means log o e (Err Malformed) = No10 log o e
+Means log o e (Err NoRoom) = No11 log o e
+Means log o e (Err (NoOrder r)) = No12 log o e r
 
 -- rows that pass questions 9 and 10 and have an order
 pub record Ordered (log : List ℕ) : Type 0 where

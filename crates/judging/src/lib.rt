@@ -2,11 +2,12 @@
 // one that is meant. The code is the crate `judge`.
 #![tactic(auto)]
 
-// What the judge says of a log.
-#[derive(Clone, Copy)]
-pub enum Verdict {
-    // It has an order, of so many operations.
-    Accepted(usize),
+ghost use Rattle.std.specs.Prelude.{◌≡◌};
+ghost use Rattle.judging.specs.Answer.{refusal};
+
+// Why the judge refuses a log.
+#[derive(Clone, Copy, Debug, PartialEq, Eq)]
+pub enum Fault {
     // It has no rows, or more than 4,096.
     WrongLength,
     // Its rows are not well formed.
@@ -15,4 +16,18 @@ pub enum Verdict {
     NoRoom,
     // It has no order: the begin row of the first read with which it has none.
     NoOrder(usize),
+}
+
+impl Fault {
+    // The number of the question that is answered no.
+    pub fn number(self) -> u32
+        ensures { result ≡ (refusal self).number }
+    {
+        match self {
+            Fault::WrongLength => 9,
+            Fault::Malformed => 10,
+            Fault::NoRoom => 11,
+            Fault::NoOrder(_) => 12,
+        }
+    }
 }

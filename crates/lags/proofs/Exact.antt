@@ -5,7 +5,7 @@ use native.Mathlib.Decide.{dec_lt}
 use mathlib.Core.Path.{◌≡◌, refl, sym, ap, ◌∙◌}
 use mathlib.Core.List.{List, [], ◌∷◌, map}
 use lib.Dec.{T}
-use lib.ListN.{length, get_or, length-map}
+use lib.ListN.{length, get_or, length-map, get_or-map}
 use lib.Seq.{ext_get_or}
 use Rattle.history.specs.WellFormed.{well_formed}
 use Rattle.history.specs.History.{history_of, Read}
@@ -20,11 +20,12 @@ use Rattle.history.proofs.Theorems.{has_earliest, ordered_if_swept}
 use Rattle.judging.specs.Rowwise.{processors}
 use Rattle.judging.proofs.Asked.{tested}
 use Rattle.lags.specs.Lag.{lag_of}
-use Rattle.lags.specs.Sheet.{reads_to, sum, reads_of, lags_of, array_of, lines_in, figures_in}
+use Rattle.lags.specs.Sheet.{reads_to, sum, reads_of, lags_of, array_of, lines_in, line_at, figures_in}
 use Rattle.lags.specs.Meaning.{Lists, Number, LagIs, LineOf, Filled}
+use Rattle.lags.specs.declared.Line.{Line}
 use Rattle.lags.specs.declared.Figures.{Figures}
-use Rattle.lags.proofs.Arrays.{array_length, array_at}
-use Rattle.lags.proofs.Totals.{over_array}
+use Rattle.lags.proofs.Arrays.{array_length, array_at, map_array, same_lines}
+use Rattle.lags.proofs.Totals.{over_reads, over_lags}
 use Rattle.lags.proofs.PerReader.{reads_are, no_reads, lag_is, map_at}
 
 -- One list has each x with P x, and so they have one number.
@@ -75,12 +76,6 @@ module _ (log : List ℕ) (w : T (well_formed log)) (swept : length log ≤ miss
     unfolding lags_of
     one_lags = A.lags_are ∙ ap sum each_are ∙ ap (λ (l : List ℕ). sum (map (lag_of log (listing log)) l)) ended_are
 
--- figures that are the same, one by one
-same : {n n' k k' s s' : ℕ} {x x' y y' : List ℕ} → n ≡ n' → x ≡ x' → y ≡ y' → k ≡ k' → s ≡ s'
-    → ◌≡◌ {A = Figures} (record { readers = n; lines = record { reads = x; lags = y }; total = record { reads = k; lags = s } })
-    (record { readers = n'; lines = record { reads = x'; lags = y' }; total = record { reads = k'; lags = s' } })
-same a b c d e = rw (a, b, c, d, e)
-
 -- So a log has one sheet.
 module _ (log : List ℕ) (f : Figures) (A : Filled log f) where
   w : T (well_formed log)
@@ -92,10 +87,10 @@ module _ (log : List ℕ) (f : Figures) (A : Filled log f) where
   swept : length log ≤ missing (history_of log)
   swept = omega (arith, (ordered_if_swept log w).0 (A.order, A.earliest.order))
 
-  line : (i : ℕ) → OneOf f.readers i → LineOf log (listing log) i (get_or f.lines.reads i 0) (get_or f.lines.lags i 0)
+  line : (i : ℕ) → OneOf f.readers i → LineOf log (listing log) i (line_at f.lines i).reads (line_at f.lines i).lags
   line i o = rw (← A.only (listing log) E) at (A.per_reader i o)
 
-  figure : (i : ℕ) → Dec (OneOf f.readers i) → (get_or f.lines.reads i 0 ≡ reads_of log i) × (get_or f.lines.lags i 0 ≡ lags_of log (listing log) i)
+  figure : (i : ℕ) → Dec (OneOf f.readers i) → ((line_at f.lines i).reads ≡ reads_of log i) × ((line_at f.lines i).lags ≡ lags_of log (listing log) i)
   figure i (yes o) = (one_reads log w swept E i _ _ (line i o), one_lags log w swept E i _ _ (line i o))
   figure i (no n) =
       let z = no_reads log w i (λ o. n (rw A.readers_are o)) in
@@ -112,12 +107,18 @@ module _ (log : List ℕ) (f : Figures) (A : Filled log f) where
   array_is l g e a =
       ext_get_or 0 l (array_of g processors) (e ∙ sym (array_length g processors)) (λ i b. a i ∙ sym (array_at g processors i (omega arith)))
 
+  lines_are : f.lines ≡ lines_in log (listing log)
+  unfolding lines_in
+  lines_are =
+      same_lines f.lines (lines_in log (listing log))
+      (array_is (map (λ (l : Line). l.reads) f.lines) (reads_of log) (length-map f.lines _ ∙ A.size)
+      (λ i. get_or-map (λ (l : Line). l.reads) f.lines i (record { reads = 0; lags = 0 }) ∙ (figure i (one_of f.readers i)).0) ∙ sym (map_array _ _ processors))
+      (array_is (map (λ (l : Line). l.lags) f.lines) (lags_of log (listing log)) (length-map f.lines _ ∙ A.size)
+      (λ i. get_or-map (λ (l : Line). l.lags) f.lines i (record { reads = 0; lags = 0 }) ∙ (figure i (one_of f.readers i)).1) ∙ sym (map_array _ _ processors))
+
   pub one_sheet : f ≡ figures_in log (listing log)
-  unfolding figures_in lines_in
+  unfolding figures_in
   one_sheet =
-      let r = array_is f.lines.reads (reads_of log) A.sizes.0 (λ i. (figure i (one_of f.readers i)).0) in
-      let l = array_is f.lines.lags (lags_of log (listing log)) A.sizes.1 (λ i. (figure i (one_of f.readers i)).1) in
-      let F = A.log_ok in
-      same A.readers_are r l
-      (A.reads_over ∙ rw (r, A.readers_are) (over_array log F (reads_of log)))
-      (A.lags_over ∙ rw (l, A.readers_are) (over_array log F (lags_of log (listing log))))
+      let r = A.reads_over ∙ rw (lines_are, A.readers_are) (over_reads log A.log_ok (listing log)) in
+      let l = A.lags_over ∙ rw (lines_are, A.readers_are) (over_lags log A.log_ok (listing log)) in
+      λ i. record { readers = A.readers_are i; lines = lines_are i; total = record { reads = r i; lags = l i } }

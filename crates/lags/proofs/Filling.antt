@@ -4,11 +4,12 @@ use native.Mathlib.Omega.{arith}
 use native.Mathlib.Numerals.{add-one}
 use native.Mathlib.Decide.{ℕ_discrete, dec_lt}
 use mathlib.Core.Path.{◌≡◌, refl, sym, ap, ◌∙◌}
-use mathlib.Core.List.{List}
+use mathlib.Core.List.{List, map}
 use lib.Dec.{T, eqb}
-use lib.ListN.{length, get_or, set, replicate, length-set, get_or-eq_default}
+use lib.ListN.{length, get_or, set, replicate, length-set, get_or-map, get_or-eq_default}
 use lib.Seq.{get_or-set_same, get_or-set_other}
 use borrow.Author.Tests.{eq-eqb, ne_eqb}
+use Rattle.std.proofs.lemmas.List.{map-set}
 use Rattle.words.specs.Choice.{pick}
 use Rattle.words.proofs.Laws.Choice.{pick_T, pick_two}
 use Rattle.history.specs.Rows.{begins, kind_of, processor_of, kind_at, processor_at}
@@ -18,19 +19,20 @@ use Rattle.history.specs.Linearization.{stands_behind}
 use Rattle.history.specs.Sweep.{missing}
 use Rattle.history.specs.Listing.{listing}
 use Rattle.judging.specs.Answer.{settled_of}
-use Rattle.judging.specs.Rowwise.{processors, open_after, place_row, floor_after}
+use Rattle.judging.specs.Rowwise.{processors, row_place, floor_after, fresh_sweep, sweep_to}
 use Rattle.judging.proofs.Asked.{tested}
 use Rattle.judging.proofs.Linked.{linked}
-use Rattle.judging.proofs.Loops.{Sweeps, sweeps_start, processor_in, raised, raised_in, sweeps_next}
+use Rattle.judging.proofs.Steps.{proc_in, sweep_one, floors_next, top_next}
+use Rattle.judging.proofs.Room.{place_bound}
 use Rattle.judging.proofs.Said.{settled}
 use Rattle.lags.specs.Lag.{with_write, begun_before, rank_of, lag_of}
-use Rattle.lags.specs.Sheet.{reads_to, array_of, reads_of, lags_of, lines_in}
-use Rattle.lags.specs.declared.Lines.{Lines}
+use Rattle.lags.specs.Sheet.{reads_to, array_of, reads_of, lags_of, lines_in, line_at}
+use Rattle.lags.specs.declared.Line.{Line}
 use Rattle.lags.proofs.Counting.{begun_one, begun_suc, begun_few, rank_max, rank_mono, rank_start, rank_before}
 use Rattle.lags.proofs.Behind.{ended, ended_there, behind_before, stands_behind_lem, place_above}
 use Rattle.lags.proofs.Summed.{added, sum_to, sum_ones, sum_start, sum_suc, sum_zero}
 use Rattle.lags.proofs.PerReader.{lag_le}
-use Rattle.lags.proofs.Arrays.{array_length, array_at, array_same, array_set, zeros_at, zeros_array}
+use Rattle.lags.proofs.Arrays.{array_length, array_at, array_same, array_set, map_array, same_lines, zeros_at, zeros_array}
 
 -- What the rows before k have added, for each processor.
 module _ (log : List ℕ) (f : ℕ → ℕ) where
@@ -111,19 +113,21 @@ module _ (log : List ℕ) where
           omega (arith, ap (rank_of log) c, rank_max log (get_or fs p 0) q, R.top, rank_mono log {p = get_or fs p 0} {q = t} (R.below p));
     }
 
--- The locals before row k, of a log that has an order: the sweep's bs, fs and t, their ranks gs and u, the lines rs and ls, and the writes begun, n.
-pub record Fills (log : List ℕ) (k : ℕ) (bs fs gs rs ls : List ℕ) (t u n : ℕ) : Type 0 where
+-- The locals before row k, of a log that has an order: the ranks gs of the sweep's floors and u of the one now, the lines ls, and the writes begun, n.
+pub record Fills (log : List ℕ) (k : ℕ) (gs : List ℕ) (ls : List Line) (u n : ℕ) : Type 0 where
   pub formed : T (well_formed log)
   pub few : length log ≤ 4096
   pub placed : length log ≤ missing (history_of log)
-  pub sweeps : Sweeps log k bs fs t
-  pub ranked : Ranked log fs t gs u
-  pub reads : rs ≡ sums log (λ _. 1) k
-  pub lags : ls ≡ sums log (lag_of log (listing log)) k
+  pub from : 1 ≤ k
+  pub upto : k ≤ length log
+  pub ranked : Ranked log (sweep_to log k).floors (sweep_to log k).top gs u
+  pub reads : map (λ (l : Line). l.reads) ls ≡ sums log (λ _. 1) k
+  pub lags : map (λ (l : Line). l.lags) ls ≡ sums log (lag_of log (listing log)) k
   pub begun : n ≡ begun_before log k
 
 pub fills_start : (log : List ℕ) → (settled_of log (length log)).number ≡ 0
-    → Fills log 1 (replicate processors 0) (replicate processors 0) (replicate processors 0) (replicate processors 0) (replicate processors 0) 0 0 0
+    → Fills log 1 (replicate processors 0) (replicate processors (record { reads = 0; lags = 0 })) 0 0
+unfolding fresh_sweep
 fills_start log z =
     let S = settled log log z in
     let w = tested S.asked.log_ok in
@@ -131,44 +135,55 @@ fills_start log z =
       formed = w;
       few = S.asked.log_ok.size.few;
       placed = S.placed;
-      sweeps = sweeps_start log w;
-      ranked = ranked_start log;
+      from = omega arith;
+      upto = S.asked.log_ok.size.some;
+      ranked = rw (sweep_one log) (ranked_start log);
       reads = sums_start log (λ _. 1) w;
       lags = sums_start log (lag_of log (listing log)) w;
       begun = sym (begun_one log);
     }
 
-module _ {log : List ℕ} {k : ℕ} {bs fs gs rs ls : List ℕ} {t u n : ℕ} (F : Fills log k bs fs gs rs ls t u n) where
-  S : Sweeps log k bs fs t
-  S = F.sweeps
-
+module _ {log : List ℕ} {k : ℕ} {gs : List ℕ} {ls : List Line} {u n : ℕ} (F : Fills log k gs ls u n) where
   abbrev row : ℕ
   row = get_or log k 0
 
   pub begun_small : n < 2 ^ 63
-  begun_small = omega (arith, F.begun, begun_few log k, S.upto, F.few)
+  begun_small = omega (arith, F.begun, begun_few log k, F.upto, F.few)
 
   -- At row k, of processor p.
   module _ (inside : k < length log) {p : ℕ} (e : p ≡ processor_of row) where
     pub is_in_range : p < processors
-    is_in_range = processor_in log F.formed k bs fs t S inside e
+    is_in_range = rw e (proc_in log F.formed k F.from inside)
 
-    pub reads_room : {x : ℕ} → x ≡ pick (eqb (kind_of row) 4) 1 0 → get_or rs p 0 + x < 2 ^ 64
+    reads_at : get_or (map (λ (l : Line). l.reads) ls) p 0 ≡ (line_at ls p).reads
+    reads_at = get_or-map (λ (l : Line). l.reads) ls p (record { reads = 0; lags = 0 })
+
+    lags_at : get_or (map (λ (l : Line). l.lags) ls) p 0 ≡ (line_at ls p).lags
+    lags_at = get_or-map (λ (l : Line). l.lags) ls p (record { reads = 0; lags = 0 })
+
+    pub reads_room : {x : ℕ} → x ≡ pick (eqb (kind_of row) 4) 1 0 → (line_at ls p).reads + x < 2 ^ 64
     reads_room a =
-        omega (arith, a ∙ read_is log k, read_le log k, sums_le log (λ _. 1) 1 k p rs F.reads (λ i _. read_le log i), S.upto, F.few)
+        omega (arith, a ∙ read_is log k, read_le log k, reads_at, sums_le log (λ _. 1) 1 k p _ F.reads (λ i _. read_le log i), F.upto, F.few)
 
-    -- It raises the floor to q.
-    module _ {q : ℕ} (f : q ≡ place_row log k (get_or bs p 0) (get_or fs p 0)) where
+    -- Its floor is f, and it raises the floor to q.
+    module _ {f q : ℕ} (g : f ≡ get_or (sweep_to log k).floors (processor_of row) 0) (h : q ≡ row_place log (sweep_to log k) k) where
+      floor_is : f ≡ get_or (sweep_to log k).floors p 0
+      floor_is = rw e g
+
       pub raised_inside : q < length log
-      raised_inside = omega (arith, raised_in log F.formed k bs fs t S inside e f)
+      raised_inside = omega (arith, h, place_bound log F.formed k F.from inside)
+
+      pub floor_rank : get_or gs p 0 ≡ rank_of log f
+      floor_rank = F.ranked.ranks p ∙ ap (rank_of log) (sym floor_is)
 
       module _ (x : kind_of row ≡ 4) where
         behind_is : stands_behind (history_of log) (listing log) (open_at log (processor_at log k) k) ≡ q
         unfolding kind_at
-        behind_is = stands_behind_lem log F.formed F.placed k S.from inside x ∙ sym (raised log F.formed k bs fs t S inside e f)
+        behind_is = stands_behind_lem log F.formed F.placed k F.from inside x ∙ sym h
 
-        floor_below : get_or fs p 0 ≤ q
-        floor_below = rw f (place_above log k (get_or bs p 0) (get_or fs p 0) x)
+        floor_below : f ≤ q
+        unfolding row_place
+        floor_below = rw (g, h) (place_above log k _ _ x)
 
         behind_row : q < k
         unfolding kind_at
@@ -177,14 +192,14 @@ module _ {log : List ℕ} {k : ℕ} {bs fs gs rs ls : List ℕ} {t u n : ℕ} (F
             omega (
               arith,
               behind_is,
-              ended_there log F.formed k S.from x,
-              behind_before log F.formed F.placed r (ended log F.formed k S.from x),
+              ended_there log F.formed k F.from x,
+              behind_before log F.formed F.placed r (ended log F.formed k F.from x),
             )
 
       -- The rank is counted to from the floor's.
-      module _ {m : ℕ} (h : m ≡ rank_of log (max (get_or fs p 0) q)) where
+      module _ {m : ℕ} (i : m ≡ rank_of log (max f q)) where
         rank_is : kind_of row ≡ 4 → m ≡ rank_of log q
-        rank_is x = let z : max (get_or fs p 0) q ≡ q = omega (arith, floor_below x) in h ∙ ap (rank_of log) z
+        rank_is x = let z : max f q ≡ q = omega (arith, floor_below x) in i ∙ ap (rank_of log) z
 
         pub rank_begun : kind_of row ≡ 4 → m ≤ n
         rank_begun x = omega (arith, rank_is x, rank_before log (behind_row x), F.begun)
@@ -192,54 +207,74 @@ module _ {log : List ℕ} {k : ℕ} {bs fs gs rs ls : List ℕ} {t u n : ℕ} (F
         lag_is : pick (eqb (kind_of row) 4) (n - m) 0 ≡ added log (lag_of log (listing log)) k
         unfolding added lag_of kind_at
         lag_is = elim (ℕ_discrete (kind_of row) 4) [
-          | yes x ↦ rw (eq-eqb (kind_of row) 4 x, ended_there log F.formed k S.from x, behind_is x, rank_is x, F.begun)
+          | yes x ↦ rw (eq-eqb (kind_of row) 4 x, ended_there log F.formed k F.from x, behind_is x, rank_is x, F.begun)
           | no x ↦ rw (ne_eqb (kind_of row) 4 x)
         ]
 
         module _ {x y : ℕ} (a : x ≡ pick (eqb (kind_of row) 4) 1 0) (b : y ≡ pick (eqb (kind_of row) 4) (n - m) 0) where
-          pub lags_room : get_or ls p 0 + y < 2 ^ 64
+          pub lags_room : (line_at ls p).lags + y < 2 ^ 64
           lags_room =
               let l = lag_le log (listing log) F.formed in
               omega (
                 arith,
                 b ∙ lag_is,
                 l k,
-                sums_le log (lag_of log (listing log)) 4096 k p ls F.lags (λ i c. omega (arith, l i, S.upto, F.few)),
-                S.upto,
+                lags_at,
+                sums_le log (lag_of log (listing log)) 4096 k p _ F.lags (λ i c. omega (arith, l i, F.upto, F.few)),
+                F.upto,
                 F.few,
               )
 
-          pub fills_next : {o f' g' t' u' n' : ℕ} → o ≡ open_after row k → f' ≡ floor_after row (get_or fs p 0) t → g' ≡ floor_after row (get_or gs p 0) u
-              → t' ≡ max t q → u' ≡ max u m → n' ≡ with_write row n
-              → Fills log (k + 1) (set bs p o) (set fs p f') (set gs p g') (set rs p (get_or rs p 0 + x)) (set ls p (get_or ls p 0 + y)) t' u' n'
-          fills_next i j r s v z =
+          pub fills_next : {g' u' n' : ℕ} → g' ≡ floor_after row (get_or gs p 0) u → u' ≡ max u m → n' ≡ with_write row n
+              → Fills log (k + 1) (set gs p g') (set ls p (record { reads = (line_at ls p).reads + x; lags = (line_at ls p).lags + y })) u' n'
+          fills_next r v z =
               let small = is_in_range in
-              let size = ap length S.floors ∙ (linked log F.formed k S.from S.upto).size in
+              let size = (linked log F.formed k F.from F.upto).size in
+              let s = sweep_to log k in
+              let rank : m ≡ rank_of log (max (get_or s.floors p 0) (row_place log s k)) = i ∙ rw (floor_is, h) in
               record {
                 formed = F.formed;
                 few = F.few;
                 placed = F.placed;
-                sweeps = sweeps_next log F.formed k bs fs t S inside e f i j s;
-                ranked = ranked_next log fs t gs u F.ranked p row q size small j r s (v ∙ ap (max u) h);
-                reads = sums_next log (λ _. 1) k p x rs small e F.reads (a ∙ read_is log k);
-                lags = sums_next log (lag_of log (listing log)) k p y ls small e F.lags (b ∙ lag_is);
-                begun = z ∙ ap (with_write row) F.begun ∙ sym (begun_suc log k S.from);
+                from = omega arith;
+                upto = omega arith;
+                ranked =
+                    rw (floors_next log k F.from, top_next log k F.from, ← e)
+                    (ranked_next log s.floors s.top gs u F.ranked p row (row_place log s k) size small refl r refl (v ∙ ap (max u) rank));
+                reads = map-set (λ (l : Line). l.reads) ls p _ ∙ rw (← reads_at) (sums_next log (λ _. 1) k p x _ small e F.reads (a ∙ read_is log k));
+                lags = map-set (λ (l : Line). l.lags) ls p _ ∙ rw (← lags_at) (sums_next log (lag_of log (listing log)) k p y _ small e F.lags (b ∙ lag_is));
+                begun = z ∙ ap (with_write row) F.begun ∙ sym (begun_suc log k F.from);
               }
 
 -- Behind the last row they are the lines.
-pub lines_are : (log l : List ℕ) {k : ℕ} {x y : List ℕ} → k ≡ length log → x ≡ sums log (λ _. 1) k → y ≡ sums log (lag_of log l) k
-    → ◌≡◌ {A = Lines} (record { reads = x; lags = y }) (lines_in log l)
-unfolding sums lines_in reads_of lags_of sum_to
-lines_are log l {k} {x} {y} a e f =
-    let c : x ≡ array_of (reads_of log) processors = e ∙ rw a (array_same _ (reads_of log) processors (λ i _. sum_ones (reads_to log i (length log)))) in
-    let d : y ≡ array_of (lags_of log l) processors = f ∙ rw a in
-    rw (c, d)
+module _ (log l : List ℕ) where
+  reads_are : map (λ (x : Line). x.reads) (lines_in log l) ≡ sums log (λ _. 1) (length log)
+  unfolding sums lines_in reads_of sum_to
+  reads_are = map_array _ _ processors ∙ sym (array_same _ (reads_of log) processors (λ i _. sum_ones (reads_to log i (length log))))
 
--- Figures in them are small.
-pub lines_small : (log l : List ℕ) (s : Lines) → T (well_formed log) → length log ≤ 4096 → s ≡ lines_in log l
-    → ((i : ℕ) → get_or s.reads i 0 < 2 ^ 32) × ((i : ℕ) → get_or s.lags i 0 < 2 ^ 32)
-lines_small log l s w a e =
-    let z : s ≡ record { reads = sums log (λ _. 1) (length log); lags = sums log (lag_of log l) (length log) } = e ∙ sym (lines_are log l refl refl refl) in (
-      λ i. omega (arith, sums_le log (λ _. 1) 1 (length log) i s.reads (ap (λ (s : Lines). s.reads) z) (λ e _. read_le log e)),
-      λ i. omega (arith, sums_le log (lag_of log l) 4096 (length log) i s.lags (ap (λ (s : Lines). s.lags) z) (λ e b. omega (arith, lag_le log l w e))),
-    )
+  lags_are : map (λ (x : Line). x.lags) (lines_in log l) ≡ sums log (lag_of log l) (length log)
+  unfolding sums lines_in lags_of sum_to
+  lags_are = map_array _ _ processors
+
+  pub lines_are : {k : ℕ} {x : List Line} → k ≡ length log → map (λ (x : Line). x.reads) x ≡ sums log (λ _. 1) k → map (λ (x : Line). x.lags) x ≡ sums log (lag_of log l) k
+      → x ≡ lines_in log l
+  lines_are {k} {x} a e f =
+      same_lines x (lines_in log l) (e ∙ ap (sums log (λ _. 1)) a ∙ sym reads_are) (f ∙ ap (sums log (lag_of log l)) a ∙ sym lags_are)
+
+  -- Figures in them are small.
+  pub lines_small : (s : List Line) → T (well_formed log) → length log ≤ 4096 → s ≡ lines_in log l
+      → ((i : ℕ) → (line_at s i).reads < 2 ^ 32) × ((i : ℕ) → (line_at s i).lags < 2 ^ 32)
+  lines_small s w a e =
+      let r = ap (map (λ (x : Line). x.reads)) e ∙ reads_are in
+      let t = ap (map (λ (x : Line). x.lags)) e ∙ lags_are in (
+        λ i. omega (
+          arith,
+          get_or-map (λ (x : Line). x.reads) s i (record { reads = 0; lags = 0 }),
+          sums_le log (λ _. 1) 1 (length log) i _ r (λ e _. read_le log e),
+        ),
+        λ i. omega (
+          arith,
+          get_or-map (λ (x : Line). x.lags) s i (record { reads = 0; lags = 0 }),
+          sums_le log (lag_of log l) 4096 (length log) i _ t (λ e b. omega (arith, lag_le log l w e)),
+        ),
+      )

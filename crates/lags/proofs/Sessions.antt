@@ -4,6 +4,7 @@ use Prim.Native.Nat.{ℕ, ◌+◌, ◌*◌}
 use mathlib.Core.Path.{◌≡◌, refl}
 use mathlib.Core.List.{List, [], ◌∷◌, ◌++◌, map}
 use lib.ListN.{take, replicate}
+use Rattle.std.specs.Prelude.{Option, Some, None}
 use Rattle.words.specs.Row
 use Rattle.words.specs.Row.{row_of}
 use Rattle.history.specs.Search
@@ -19,17 +20,23 @@ use Rattle.judging.specs.Rowwise.{processors}
 use Rattle.lags.specs.Lag
 use Rattle.lags.specs.Sheet
 use Rattle.lags.specs.Sheet.{sheet_answer, figures_of}
+use Rattle.lags.specs.declared.Line.{Line}
+use Rattle.lags.specs.declared.Figures.{Figures}
 
--- what came and what is to come: number and values of the answer; the readers; for each processor its reads, and their lags; the totals
+-- what came and what is to come: number and values of the answer; and if it is accepted, the readers; for each processor its reads, and their lags;
+-- the totals
 pub record Session : Type 0 where
   pub got : List (List ℕ)
   pub wanted : List (List ℕ)
 
+abbrev figures_told : Option Figures → List (List ℕ)
+figures_told (Some f) = (f.readers ∷ []) ∷ map (λ (l : Line). l.reads) f.lines ∷ map (λ (l : Line). l.lags) f.lines ∷ (f.total.reads ∷ f.total.lags ∷ []) ∷ []
+figures_told None = []
+
 abbrev told : List ℕ → List (List ℕ)
 told log =
     let a = sheet_answer log in
-    let f = figures_of log in
-    (a.number ∷ a.values) ∷ (f.readers ∷ []) ∷ f.lines.reads ∷ f.lines.lags ∷ (f.total.reads ∷ f.total.lags ∷ []) ∷ []
+    (a.number ∷ a.values) ∷ figures_told (figures_of log)
 
 -- the writer's 0, the readers' figures, and 0 for those that there are none of
 abbrev by_processor : List ℕ → List ℕ
@@ -44,7 +51,7 @@ sheet n start rows reads lags k s = record {
 
 -- "A log that the judge refuses has no sheet and gets the judge's refusal"
 abbrev none : List ℕ → List ℕ → Session
-none log answer = record { got = told log; wanted = answer ∷ (0 ∷ []) ∷ by_processor [] ∷ by_processor [] ∷ (0 ∷ 0 ∷ []) ∷ [] }
+none log answer = record { got = told log; wanted = answer ∷ [] }
 
 -- rows in the letters of the listing, and one that ends a read with a band
 abbrev W : ℕ → ℕ
@@ -108,5 +115,5 @@ table =
     ∷ []
 
 pub sessions : map (λ (s : Session). s.got) table ≡ map (λ (s : Session). s.wanted) table
-unfolding Row.pack_row Rows.kind_of Rows.within Rows.suits Rows.begins Rows.kind_at Rows.processor_at Rows.zero_at Rows.value_at WellFormed.well_formed WellFormed.head_ok WellFormed.fields WellFormed.open_at WellFormed.alternates WellFormed.row_ok WellFormed.all History.event_at History.end_at Search.first Linearization.position_in Linearization.last_write Linearization.stands_behind Sweep.place_at Sweep.adds Sweep.floors Sweep.floor Sweep.place Sweep.missing Listing.behind Listing.group Listing.build Listing.listing Fold.up_to Answer.count_after Answer.begins_to Answer.cases Answer.settled_of Lag.with_write Lag.begun_before Lag.rank_of Lag.lag_of Sheet.picked Sheet.reads_to Sheet.sum Sheet.reads_of Sheet.lags_of Sheet.over_readers Sheet.array_of Sheet.lines_in Sheet.figures_in Sheet.blank Sheet.sheet_answer Sheet.figures_of
+unfolding Row.pack_row Rows.kind_of Rows.within Rows.suits Rows.begins Rows.kind_at Rows.processor_at Rows.zero_at Rows.value_at WellFormed.well_formed WellFormed.head_ok WellFormed.fields WellFormed.open_at WellFormed.alternates WellFormed.row_ok WellFormed.all History.event_at History.end_at Search.first Linearization.position_in Linearization.last_write Linearization.stands_behind Sweep.place_at Sweep.adds Sweep.floors Sweep.floor Sweep.place Sweep.missing Listing.behind Listing.group Listing.build Listing.listing Fold.up_to Answer.count_after Answer.begins_to Answer.cases Answer.settled_of Lag.with_write Lag.begun_before Lag.rank_of Lag.lag_of Sheet.picked Sheet.reads_to Sheet.sum Sheet.reads_of Sheet.lags_of Sheet.over_readers Sheet.array_of Sheet.lines_in Sheet.figures_in Sheet.sheet_answer Sheet.figures_of
 sessions = refl

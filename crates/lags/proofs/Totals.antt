@@ -3,21 +3,21 @@ use Prim.Native.Nat.{ℕ, suc, zero, ◌≤◌, ◌<◌, ◌+◌, ◌*◌}
 use native.Mathlib.Omega.{arith}
 use native.Mathlib.Numerals.{add-one}
 use native.Mathlib.Decide.{ℕ_discrete}
-use mathlib.Core.Path.{◌≡◌, refl, sym, ◌∙◌}
+use mathlib.Core.Path.{◌≡◌, refl, sym, ap, ◌∙◌}
 use mathlib.Core.Bool.{Bool, true, false}
 use mathlib.Core.List.{List}
 use lib.Dec.{T, eqb}
-use lib.ListN.{length, get_or}
+use lib.ListN.{length}
 use borrow.Author.Tests.{eq-eqb, ne_eqb}
 use Rattle.words.specs.Choice.{pick}
 use Rattle.history.specs.Rows.{kind_at, processor_at}
 use Rattle.history.specs.WellFormed.{well_formed}
 use Rattle.history.proofs.WellFormed.{row}
-use Rattle.judging.specs.Rowwise.{processors}
 use Rattle.judging.specs.Meaning.{Formed}
 use Rattle.judging.proofs.FoldLaws.{up_to_one, up_to_suc, rows_ind}
-use Rattle.lags.specs.Sheet.{over_readers, array_of, row_by_row}
-use Rattle.lags.proofs.Arrays.{array_at}
+use Rattle.lags.specs.Sheet.{reads_of, lags_of, over_readers, lines_in, line_at, row_by_row}
+use Rattle.lags.specs.declared.Line.{Line}
+use Rattle.lags.proofs.Arrays.{line_in}
 use Rattle.lags.proofs.Summed.{added, sum_to, sum_start, sum_suc}
 
 over_add : (f g : ℕ → ℕ) (n : ℕ) → over_readers (λ i. f i + g i) n ≡ over_readers f n + over_readers g n
@@ -91,8 +91,16 @@ module _ (log : List ℕ) (F : Formed log) where
   unfolding processor_at
   readers_few = F.formed.starts.readers.high
 
-  pub over_array : (f : ℕ → ℕ) → over_readers (λ i. get_or (array_of f processors) i 0) (processor_at log 0) ≡ over_readers f (processor_at log 0)
-  over_array f = over_same _ f (processor_at log 0) (λ i a b. array_at f processors i (omega (arith, readers_few)))
+  -- The readers are among the processors.
+  module _ (l : List ℕ) where
+    line_is : (i : ℕ) → i ≤ processor_at log 0 → line_at (lines_in log l) i ≡ record { reads = reads_of log i; lags = lags_of log l i }
+    line_is i a = line_in log l i (omega (arith, readers_few))
+
+    pub over_reads : over_readers (λ i. (line_at (lines_in log l) i).reads) (processor_at log 0) ≡ over_readers (reads_of log) (processor_at log 0)
+    over_reads = over_same _ _ (processor_at log 0) (λ i _ a. ap (λ (x : Line). x.reads) (line_is i a))
+
+    pub over_lags : over_readers (λ i. (line_at (lines_in log l) i).lags) (processor_at log 0) ≡ over_readers (lags_of log l) (processor_at log 0)
+    over_lags = over_same _ _ (processor_at log 0) (λ i _ a. ap (λ (x : Line). x.lags) (line_is i a))
 
 -- For the loop that adds them.
 pub over_zero : (f : ℕ → ℕ) → over_readers f 0 ≡ 0

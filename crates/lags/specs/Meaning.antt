@@ -1,17 +1,17 @@
 -- What a sheet means, in the words of document 02, card 10.
-use Rattle.std.specs.Prelude.{ℕ, ◌+◌, ◌≤◌, ◌<◌, ◌≡◌, ◌≢◌, List, length, get_or}
+use Rattle.std.specs.Prelude.{ℕ, ◌+◌, ◌≤◌, ◌<◌, ◌≡◌, List, Result, Ok, Err, length, get_or}
 use Rattle.history.specs.Rows.{processor_at}
 use Rattle.history.specs.Form.{OneOf}
 use Rattle.history.specs.History.{end_at, history_of, Write, Read}
 use Rattle.history.specs.Linearization.{Stands, last_write}
 use Rattle.history.specs.Earliest.{Earliest}
 use Rattle.judging.specs.Rowwise.{processors}
-use Rattle.judging.specs.Answer.{answer, accepted, begins_to}
+use Rattle.judging.specs.Answer.{begins_to}
 use Rattle.judging.specs.Meaning.{Formed, Means}
+use Rattle.judging.specs.declared.Fault.{Fault}
 use Rattle.lags.specs.Lag.{lag_of}
-use Rattle.lags.specs.Sheet.{sum, over_readers, blank, row_by_row}
+use Rattle.lags.specs.Sheet.{sum, over_readers, line_at, row_by_row}
 use Rattle.lags.specs.declared.Figures.{Figures}
-use Rattle.lags.specs.declared.Sheet.{Sheet}
 
 -- l has each x with P x, and nothing else, rising
 pub record Lists (P : ℕ → Type 0) (l : List ℕ) : Type 0 where
@@ -64,23 +64,21 @@ pub record Filled (log : List ℕ) (f : Figures) : Type 0 where
   pub only : (l : List ℕ) → Earliest (history_of log) l → l ≡ order
   -- "per reader", 1..n; the writer, and readers that there are none of, have 0 and 0
   pub readers_are : f.readers ≡ processor_at log 0
-  pub per_reader : (i : ℕ) → OneOf f.readers i → LineOf log order i (get_or f.lines.reads i 0) (get_or f.lines.lags i 0)
-  pub no_others : (i : ℕ) → ¬ OneOf f.readers i → (get_or f.lines.reads i 0 ≡ 0) × (get_or f.lines.lags i 0 ≡ 0)
-  pub sizes : (length f.lines.reads ≡ processors) × (length f.lines.lags ≡ processors)
+  pub per_reader : (i : ℕ) → OneOf f.readers i → LineOf log order i (line_at f.lines i).reads (line_at f.lines i).lags
+  pub no_others : (i : ℕ) → ¬ OneOf f.readers i → ((line_at f.lines i).reads ≡ 0) × ((line_at f.lines i).lags ≡ 0)
+  pub size : length f.lines ≡ processors
   -- "and the totals": "per reader and then over readers"
-  pub reads_over : f.total.reads ≡ over_readers (λ i. get_or f.lines.reads i 0) f.readers
-  pub lags_over : f.total.lags ≡ over_readers (λ i. get_or f.lines.lags i 0) f.readers
+  pub reads_over : f.total.reads ≡ over_readers (λ i. (line_at f.lines i).reads) f.readers
+  pub lags_over : f.total.lags ≡ over_readers (λ i. (line_at f.lines i).lags) f.readers
   -- "Today's sheet adds row by row", "and the totals must agree"
   pub reads_agree : f.total.reads ≡ row_by_row log (λ _. 1) (length log)
   pub lags_agree : f.total.lags ≡ row_by_row log (lag_of log order) (length log)
 
 -- "A log that the judge refuses has no sheet and gets the judge's refusal": the one that it gives where it is lent places enough,
 -- whichever they are; they stay as they are
-pub record NoSheet (log : List ℕ) (s : Sheet) : Type 0 where
-  pub refused : (answer s.verdict).number ≢ 0
-  pub refusal : (o : List ℕ) → begins_to log (length log) ≤ length o → Means log o o s.verdict
-  pub none : s.figures ≡ blank
+pub record NoSheet (log : List ℕ) (f : Fault) : Type 0 where
+  pub refusal : (o : List ℕ) → begins_to log (length log) ≤ length o → Means log o o (Err f)
 
-pub data SheetSays (log : List ℕ) (s : Sheet) : Type 0 where
-  has_sheet : answer s.verdict ≡ accepted 0 → Filled log s.figures → SheetSays log s
-  no_sheet : NoSheet log s → SheetSays log s
+abbrev pub SheetSays : List ℕ → Result Figures Fault → Type 0
+SheetSays log (Ok f) = Filled log f
+SheetSays log (Err f) = NoSheet log f

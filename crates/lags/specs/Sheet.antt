@@ -1,5 +1,5 @@
 -- The course sheet: "Give per reader the number of ended reads and the sum of their lags, and the totals."
-use Rattle.std.specs.Prelude.{ℕ, suc, zero, ◌+◌, Bool, ◌&&◌, List, [], ◌∷◌, ◌++◌, map, eqb, length, replicate}
+use Rattle.std.specs.Prelude.{ℕ, suc, zero, ◌+◌, Bool, ◌&&◌, List, [], ◌∷◌, ◌++◌, Option, Some, None, map, eqb, length, get_or}
 use Rattle.words.specs.Choice.{pick}
 use Rattle.history.specs.Rows.{kind_at, processor_at}
 use Rattle.history.specs.WellFormed.{open_at}
@@ -7,7 +7,7 @@ use Rattle.judging.specs.Fold.{up_to}
 use Rattle.judging.specs.Answer.{Answer, begins_to, cases, settled_of}
 use Rattle.judging.specs.Rowwise.{processors}
 use Rattle.lags.specs.Lag.{lag_of}
-use Rattle.lags.specs.declared.Lines.{Lines}
+use Rattle.lags.specs.declared.Line.{Line}
 use Rattle.lags.specs.declared.Figures.{Figures}
 
 -- g of each row before k that passes t, by row
@@ -41,13 +41,17 @@ over_readers f zero = 0
 over_readers f (suc i) = over_readers f i + f (suc i)
 
 -- f of the processors below n, as an array
-unfoldable pub array_of : (ℕ → ℕ) → ℕ → List ℕ
+unfoldable pub array_of : {A : Type 0} → (ℕ → A) → ℕ → List A
 array_of f zero = []
 array_of f (suc i) = array_of f i ++ (f i ∷ [])
 
 -- the readers' lines, where the order is l
-unfoldable pub lines_in : List ℕ → List ℕ → Lines
-lines_in log l = record { reads = array_of (reads_of log) processors; lags = array_of (lags_of log l) processors }
+unfoldable pub lines_in : List ℕ → List ℕ → List Line
+lines_in log l = array_of (λ i. record { reads = reads_of log i; lags = lags_of log l i }) processors
+
+-- processor i's line, of those that there are
+abbrev pub line_at : List Line → ℕ → Line
+line_at lines i = get_or lines i (record { reads = 0; lags = 0 })
 
 -- and all figures
 unfoldable pub figures_in : List ℕ → List ℕ → Figures
@@ -55,19 +59,14 @@ figures_in log l =
     let n = processor_at log 0 in
     record { readers = n; lines = lines_in log l; total = record { reads = over_readers (reads_of log) n; lags = over_readers (lags_of log l) n } }
 
--- no sheet
-unfoldable pub blank : Figures
-blank =
-    let none : List ℕ = replicate processors 0 in
-    record { readers = 0; lines = record { reads = none; lags = none }; total = record { reads = 0; lags = 0 } }
-
 -- "A log that the judge refuses has no sheet and gets the judge's refusal; order places and an index are not lent." What the judge says
 -- where there are places for every begin row, and none is written
 unfoldable pub sheet_answer : List ℕ → Answer
 sheet_answer log = settled_of log (begins_to log (length log))
 
-unfoldable pub figures_of : List ℕ → Figures
-figures_of log = cases log (begins_to log (length log)) (λ _. blank) (λ _. blank) (figures_in log)
+-- the figures, of which a refused log has none
+unfoldable pub figures_of : List ℕ → Option Figures
+figures_of log = cases log (begins_to log (length log)) (λ _. None) (λ _. None) (λ l. Some (figures_in log l))
 
 -- "Today's sheet adds row by row": f of each read that ended before row k, added at its end row
 unfoldable pub row_by_row : List ℕ → (ℕ → ℕ) → ℕ → ℕ

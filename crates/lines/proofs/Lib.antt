@@ -1,4 +1,5 @@
 pub mod Puts
+pub mod Adds
 pub mod Rows
 pub mod LineLaws
 pub mod Lengths

@@ -3,17 +3,16 @@ use Prim.Native.Nat.{ℕ, zero, suc, ◌+◌, ◌/◌, ◌%◌, ◌≤◌, ◌<�
 use native.Mathlib.Omega.{arith}
 use native.Mathlib.Decide.{dec_lt}
 use mathlib.Core.Path.{◌≡◌, refl, sym, ap, subst, ◌∙◌}
-use mathlib.Core.Logic.{◌≢◌}
-use mathlib.Core.Bool.{Bool, true, false, ◌||◌}
-use mathlib.Core.List.{List, [], ◌∷◌, ◌++◌, flat_map}
-use lib.Dec.{eqb, ltb}
-use borrow.Author.Tests.{ne_eqb, le-ltb, lt-ltb}
+use mathlib.Core.Bool.{Bool, true, false}
+use mathlib.Core.List.{List, [], ◌∷◌, ◌++◌}
+use lib.Dec.{ltb}
+use borrow.Author.Tests.{le-ltb, lt-ltb}
 use Rattle.words.specs.declared.row.Row.{Row}
 use Rattle.words.specs.Row.{unpack_row}
 use Rattle.words.proofs.Laws.Choice.{never}
-use Rattle.lines.specs.Ascii.{ascii}
-use Rattle.lines.specs.Lines.{decimal_in, decimal, line_of, field, order_line, letter_of, reader_text, reading_text, row_text, row_line, readers_line, Puts}
-use Rattle.lines.proofs.Puts.{behind, nothing}
+use Rattle.lines.specs.Lines.{decimal_in, decimal, letter_of, reader_text, reading_text, row_text, row_line}
+use Rattle.lines.specs.Adds.{Adds, Sink}
+use Rattle.lines.proofs.Adds.{then_adds}
 
 -- A step, of a number with one digit and of one with more.
 small_step : (f n : ℕ) → n < 10 → decimal_in (suc f) n ≡ (48 + n) ∷ []
@@ -57,77 +56,23 @@ decimal_large n h =
     ∙ ap (λ (t : List ℕ). t ++ ((48 + n % 10) ∷ [])) (steps n (suc (n / 10)) (n / 10) (omega arith) (omega arith))
 
 -- The cases of a number.
-pub number_small : (n : ℕ) {l x : List ℕ} {p r : ℕ} → n < 10 → Puts ((48 + n) ∷ []) p l x r → Puts (decimal n) p l x r
-number_small n h a = rw (decimal_small n h) a
+pub number_small : (n : ℕ) {a b : Sink} → n < 10 → Adds ((48 + n % 10) ∷ []) a b → Adds (decimal n) a b
+number_small n h f =
+    let e : n % 10 ≡ n = omega arith in
+    rw (decimal_small n h) (rw e at f)
 
-pub number_large : (n : ℕ) {l m x : List ℕ} {p q r : ℕ} → 10 ≤ n → Puts (decimal (n / 10)) p l m q → Puts ((48 + n % 10) ∷ []) q m x r
-    → Puts (decimal n) p l x r
-number_large n h a b = rw (decimal_large n h) (behind a b)
-
--- Lines with one number.
-pub line_is : {s l m o x : List ℕ} {p q r e : ℕ} (n : ℕ) → Puts s p l m q → Puts (decimal n) q m o r → Puts (10 ∷ []) r o x e → Puts (line_of s n) p l x e
-unfolding line_of
-line_is n a b c = behind (behind a b) c
-
-pub field_is : (n : ℕ) {l m x : List ℕ} {p q r : ℕ} → Puts (32 ∷ []) p l m q → Puts (decimal n) q m x r → Puts (field n) p l x r
-unfolding field
-field_is n a b = behind a b
-
-pub readers_are : (n v : ℕ) {l m o x : List ℕ} {p q r e : ℕ} → Puts (ascii "readers ") p l m q → Puts (decimal n) q m o r
-    → Puts (line_of (ascii " start ") v) r o x e
-    → Puts (readers_line n v) p l x e
-unfolding readers_line
-readers_are n v a b c = behind (behind a b) c
-
-pub order_is : (ns : List ℕ) {l m o x : List ℕ} {p q r e : ℕ} → Puts (ascii "order") p l m q → Puts (flat_map field ns) q m o r → Puts (10 ∷ []) r o x e
-    → Puts (order_line ns) p l x e
-unfolding order_line
-order_is ns a b c = behind (behind a b) c
-
--- The letters.
-pub letter_1 : (k : ℕ) → k ≡ 1 → 87 ≡ letter_of k
-unfolding letter_of
-letter_1 k e = rw e
-
-pub letter_2 : (k : ℕ) → k ≡ 2 → 119 ≡ letter_of k
-unfolding letter_of
-letter_2 k e = rw e
-
-pub letter_3 : (k : ℕ) → k ≡ 3 → 82 ≡ letter_of k
-unfolding letter_of
-letter_3 k e = rw e
-
-pub letter_4 : (k : ℕ) → k ≢ 1 → k ≢ 2 → k ≢ 3 → 114 ≡ letter_of k
-unfolding letter_of
-letter_4 k a b c = rw (ne_eqb k 1 a, ne_eqb k 2 b, ne_eqb k 3 c)
-
--- The parts of a row.
-module _ (kind v : ℕ) {l : List ℕ} {p : ℕ} where
-  pub reader_yes : {x : List ℕ} {r : ℕ} → (eqb kind 3 || eqb kind 4) ≡ true → Puts (field v) p l x r → Puts (reader_text kind v) p l x r
-  unfolding reader_text
-  reader_yes e a = rw e a
-
-  pub reader_no : (eqb kind 3 || eqb kind 4) ≡ false → Puts (reader_text kind v) p l l p
-  unfolding reader_text
-  reader_no e = rw e (nothing l p)
-
-  pub reading_yes : {x : List ℕ} {r : ℕ} → (eqb kind 1 || eqb kind 4) ≡ true → Puts (field v) p l x r → Puts (reading_text kind v) p l x r
-  unfolding reading_text
-  reading_yes e a = rw e a
-
-  pub reading_no : (eqb kind 1 || eqb kind 4) ≡ false → Puts (reading_text kind v) p l l p
-  unfolding reading_text
-  reading_no e = rw e (nothing l p)
+pub number_large : (n : ℕ) {a b c : Sink} → 10 ≤ n → Adds (decimal (n / 10)) a b → Adds ((48 + n % 10) ∷ []) b c → Adds (decimal n) a c
+number_large n h f g = rw (decimal_large n h) (then_adds f g)
 
 -- A whole row.
-pub row_is : (k w : ℕ) (y : Row) (g : ℕ) {l a b c d x : List ℕ} {p q r s t e : ℕ} → y ≡ unpack_row w → g ≡ letter_of y.kind
-    → Puts (decimal k) p l a q
-    → Puts (32 ∷ g ∷ []) q a b r
-    → Puts (reader_text y.kind y.processor) r b c s
-    → Puts (reading_text y.kind y.value) s c d t
-    → Puts (10 ∷ []) t d x e
-    → Puts (row_line k w) p l x e
+pub row_is : (k w : ℕ) (y : Row) (g : ℕ) {a b c d e f : Sink} → y ≡ unpack_row w → g ≡ letter_of y.kind
+    → Adds (decimal k) a b
+    → Adds (32 ∷ g ∷ []) b c
+    → Adds (reader_text y.kind y.processor) c d
+    → Adds (reading_text y.kind y.value) d e
+    → Adds (10 ∷ []) e f
+    → Adds (row_line k w) a f
 unfolding row_text
-row_is k w y g {l} {a} {b} {c} {d} {x} {p} {q} {r} {s} {t} {e} u z f h i j z' =
-    let h' : Puts (32 ∷ letter_of y.kind ∷ []) q a b r = subst (λ (m : ℕ). Puts (32 ∷ m ∷ []) q a b r) z h in
-    subst (λ (m : Row). Puts (row_text k m) p l x e) u (behind (behind (behind (behind f h') i) j) z')
+row_is k w y g {a} {b} {c} {d} {e} {f} u z n l p v z' =
+    let l' : Adds (32 ∷ letter_of y.kind ∷ []) b c = subst (λ (m : ℕ). Adds (32 ∷ m ∷ []) b c) z l in
+    subst (λ (m : Row). Adds (row_text k m) a f) u (then_adds (then_adds (then_adds (then_adds n l') p) v) z')

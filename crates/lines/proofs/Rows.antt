@@ -5,8 +5,9 @@ use mathlib.Core.Path.{◌≡◌, refl, sym, ap, ◌∙◌}
 use mathlib.Core.List.{List, [], ◌∷◌, ◌++◌, append-nil, append_assoc}
 use lib.ListN.{length, get_or, take, drop, length-drop, length-take}
 use lib.Seq.{drop-append-le}
-use Rattle.lines.specs.Lines.{row_line, row_lines, rows_text, Puts}
-use Rattle.lines.proofs.Puts.{nothing, next_text}
+use Rattle.lines.specs.Lines.{row_line, row_lines, rows_text}
+use Rattle.lines.specs.Adds.{Adds, Sink}
+use Rattle.lines.proofs.Adds.{no_text, next_adds}
 
 row_more : (k : ℕ) (ws : List ℕ) (w : ℕ) → row_lines k (ws ++ (w ∷ [])) ≡ row_lines k ws ++ row_line (k + length ws) w
 unfolding row_lines
@@ -24,8 +25,8 @@ unfolding row_lines
 no_row [] = refl
 no_row (w ∷ rows) = refl
 
-pub no_rows : (rows l : List ℕ) (p : ℕ) → Puts (rows_text (take 1 rows)) p l l p
-no_rows rows l p = rw (no_row rows) (nothing l p)
+pub no_rows : (rows : List ℕ) (a : Sink) → Adds (rows_text (take 1 rows)) a a
+no_rows rows a = rw (no_row rows) (no_text a)
 
 module _ (rows : List ℕ) (k : ℕ) (i : 1 ≤ k) (h : k < length rows) where
   one_row : rows_text (take k rows ++ (get_or rows k 0 ∷ [])) ≡ rows_text (take k rows) ++ row_line k (get_or rows k 0)
@@ -36,6 +37,5 @@ module _ (rows : List ℕ) (k : ℕ) (i : 1 ≤ k) (h : k < length rows) where
       ∙ ap (λ (n : ℕ). rows_text (take k rows) ++ row_line n (get_or rows k 0)) e
 
   -- row k behind those before it
-  pub next_row : {l m x : List ℕ} {p q r : ℕ} → Puts (rows_text (take k rows)) p l m q → Puts (row_line k (get_or rows k 0)) q m x r
-      → Puts (rows_text (take (k + 1) rows)) p l x r
-  next_row a b = next_text rows_text rows k h one_row a b
+  pub next_row : {a b c : Sink} → Adds (rows_text (take k rows)) a b → Adds (row_line k (get_or rows k 0)) b c → Adds (rows_text (take (k + 1) rows)) a c
+  next_row f g = next_adds rows_text rows k h one_row f g

@@ -80,8 +80,8 @@ rows_text rows = row_lines 1 (drop 1 rows)
 unfoldable pub readers_line : ℕ → ℕ → List ℕ
 readers_line n v = ascii "readers " ++ decimal n ++ line_of (ascii " start ") v
 
--- A text put into bytes from place p on, as much of it as they have places for: they become x, and r is the place behind it.
-pub record Puts (text : List ℕ) (p : ℕ) (bytes x : List ℕ) (r : ℕ) : Type 0 where
+-- A text put into places from place p on, as much of it as there are places for: they become x, and r is the place behind it.
+pub record Puts {A : Type 0} (text : List A) (p : ℕ) (bytes x : List A) (r : ℕ) : Type 0 where
   pub bytes_are : x ≡ sets bytes p text
   pub end_is : r ≡ max p (min (p + length text) (length bytes))
 

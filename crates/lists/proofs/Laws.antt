@@ -1,29 +1,34 @@
 -- A list of calls made from words, one call at a time, for any rules.
-use Prim.Native.Nat.{ℕ, suc, ◌+◌, ◌≤◌, ◌<◌}
+use Prim.Native.Nat.{ℕ, suc, min, ◌+◌, ◌≤◌, ◌<◌}
 use mathlib.Core.Path.{◌≡◌, refl, sym, ap, subst, ◌∙◌}
 use mathlib.Core.Logic.{◌≢◌}
 use mathlib.Core.List.{List, [], ◌∷◌, ◌++◌, map, append_assoc}
 use mathlib.Core.Bool.{Bool, true, false, ◌&&◌}
 use native.Mathlib.Omega.{arith}
+use native.Mathlib.Decide.{dec_lt}
 use native.Mathlib.Numerals.{add-one}
-use lib.Dec.{T, leb, ltb}
+use lib.Dec.{T, leb}
 use lib.ListN.{length, get_or, set, take, drop, take-append-drop, drop_of_length-le}
 use lib.Seq.{drop-cons, take-suc-set, drop-set-lt}
-use borrow.Author.Tests.{eq-eqb, ne_eqb, ltb-true, ltb-false}
-use Rattle.words.specs.Bits.{low}
-use Rattle.words.proofs.Laws.Choice.{pick_ind}
+use borrow.Author.Tests.{eq-eqb, ne_eqb}
+use Rattle.words.proofs.Laws.Choice.{pick_ind, never}
 use Rattle.history.specs.WellFormed.{well_formed}
 use Rattle.history.specs.Bands.{NoBands}
 use Rattle.history.specs.Linearization.{Orders}
 use Rattle.history.proofs.Theorems.{never_older}
 use Rattle.common.specs.declared.State.{State}
-use Rattle.common.specs.declared.Answer.{Answer}
-use Rattle.common.specs.declared.Answer.TheVariants.{Accepted}
-use Rattle.common.specs.Calls.{Call, LowCalls}
-use Rattle.common.specs.CallWords.{kind_of, is_call, call_in, answer_word, calls_in}
+use Rattle.std.specs.Prelude.{Ok, Err}
+use Rattle.std.specs.Result.{is_err}
+use Rattle.common.specs.declared.Done.TheVariants.{Accepted, Moved}
+use Rattle.common.specs.declared.Refusal.{Refusal}
+use Rattle.common.specs.declared.Refusal.TheVariants.{Readers, Cells, Rows, Range, Processor, Busy, Full, Idle, Retired, Spent}
+use Rattle.common.specs.Answers.{Answer, refusal_number}
+use Rattle.common.specs.Calls.{LowCalls}
+use Rattle.common.specs.declared.calls.Call.{Call}
+use Rattle.common.specs.CallWords.{is_call, call_in, answer_word, calls_in}
 use Rattle.common.specs.Rules.{Rules}
 use Rattle.common.specs.SetUp.{Outcome, set_up_of}
-use Rattle.common.specs.Register.{begin_write_of, begin_read_of, step_of, retire_of, call_of, run_of}
+use Rattle.common.specs.Register.{call_of, run_of}
 use Rattle.common.specs.Book.{Telling}
 use Rattle.common.specs.Whole.{AsBook}
 use Rattle.common.proofs.Kind.{kind_kept}
@@ -32,7 +37,6 @@ use Rattle.register.specs.declared.calls.Called.{Called}
 use Rattle.kinds.specs.Rules.{rules_of}
 use Rattle.register.specs.Contract.{outcome}
 use Rattle.lists.specs.Run.{MadeCalls, made_of, made_calls, run_words_of, WholeRun}
-use Rattle.kinds.proofs.Laws.{kind_is}
 
 -- The kind of register is what set-up made it.
 module _ (R : Rules) where
@@ -49,28 +53,45 @@ module _ (R : Rules) where
       (λ _. pick_ind made (leb 3 (length l) && leb (length l) 4096) _ _ (λ _. refl) (λ _. refl)) (λ _. refl))
       (λ _. refl)
 
+-- Set-up makes no sub-step, so its word is 0 just if it is not refused.
+abbrev OfSetUp : Answer → Type 0
+OfSetUp (Ok Accepted) = Unit {0}
+OfSetUp (Ok (Moved k)) = ⊥
+OfSetUp (Err why) = Unit {0}
+
+set_up_answer : (R : Rules) (n v fresh : ℕ) (t l : List ℕ) → OfSetUp (set_up_of R n v fresh t l).answer
+unfolding set_up_of
+set_up_answer R n v fresh t l =
+    let Fine : Outcome → Type 0 = λ o. OfSetUp o.answer in
+    pick_ind Fine (leb 1 n && leb n 16) _ _
+    (λ _. pick_ind Fine (leb (R.cells n) (length t)) _ _
+    (λ _. pick_ind Fine (leb 3 (length l) && leb (length l) 4096) _ _ (λ _. tt) (λ _. tt)) (λ _. tt))
+    (λ _. tt)
+
+pub word_accepted : (a : Answer) → OfSetUp a → is_err a ≡ false → answer_word a ≡ 0
+word_accepted (Ok Accepted) u i = omega arith
+word_accepted (Ok (Moved k)) u i = absurd u
+word_accepted (Err why) u i = never i
+
+refusal_positive : (why : Refusal) → 1 ≤ refusal_number why
+refusal_positive Readers = omega arith
+refusal_positive Cells = omega arith
+refusal_positive Rows = omega arith
+refusal_positive Range = omega arith
+refusal_positive Processor = omega arith
+refusal_positive Busy = omega arith
+refusal_positive Full = omega arith
+refusal_positive Idle = omega arith
+refusal_positive Retired = omega arith
+refusal_positive Spent = omega arith
+
+pub word_refused : (a : Answer) → is_err a ≡ true → answer_word a ≢ 0
+word_refused (Ok done) i = never (sym i)
+word_refused (Err why) i = λ z. omega (arith, refusal_positive why)
+
 -- the rules of one kind are those of the same
 pub as_rules : (b d : Bool) → b ≡ d → (o : Outcome) (s : State) (t l : List ℕ) (c : Call) → o ≡ call_of (rules_of b) s t l c → o ≡ call_of (rules_of d) s t l c
 as_rules b d e o s t l c q = q ∙ ap (λ (k : Bool). call_of (rules_of k) s t l c) e
-
--- The call in a word, by its kind.
-module _ (R : Rules) (s : State) (t l : List ℕ) (w : ℕ) where
-  pub calls_write : kind_of w ≡ 1 → begin_write_of R s t l (low 32 w) ≡ call_of R s t l (call_in w)
-  unfolding call_of
-  calls_write e = rw (eq-eqb (kind_of w) 1 e)
-
-  pub calls_read : kind_of w ≢ 1 → kind_of w ≡ 2 → begin_read_of R s t l (low 32 w) ≡ call_of R s t l (call_in w)
-  unfolding call_of
-  calls_read ne e = rw (ne_eqb (kind_of w) 1 ne, eq-eqb (kind_of w) 2 e)
-
-  module _ (ne : kind_of w ≢ 1) (ne2 : kind_of w ≢ 2) where
-    pub calls_step : kind_of w ≡ 3 → step_of R s t l (low 32 w) ≡ call_of R s t l (call_in w)
-    unfolding call_of
-    calls_step e = rw (ne_eqb (kind_of w) 1 ne, ne_eqb (kind_of w) 2 ne2, eq-eqb (kind_of w) 3 e)
-
-    pub calls_retire : kind_of w ≢ 3 → retire_of R s t l (low 32 w) ≡ call_of R s t l (call_in w)
-    unfolding call_of
-    calls_retire ne3 = rw (ne_eqb (kind_of w) 1 ne, ne_eqb (kind_of w) 2 ne2, ne_eqb (kind_of w) 3 ne3)
 
 -- Where no call is made, and where the first word is one.
 abbrev stopped : State → List ℕ → List ℕ → List ℕ → MadeCalls
@@ -153,13 +174,9 @@ module _ (R : Rules) (s : State) (t l words places : List ℕ) (i : ℕ) where
   stops_full h k = rw (drop_of_length-le places k, drop-cons words i 0 h) (no_places R s t l _ _)
 
   -- at the end of the words or of the places
-  pub stops_here : (ltb i (length words) && ltb i (length places)) ≡ false
+  pub stops_here : i ≡ min (length words) (length places)
       → onward R s t l words places i ≡ made_calls (record { made = i; state = s }) t l places
-  stops_here e = stops (by (ltb i (length words)) refl)
-    where
-      by : (b : Bool) → ltb i (length words) ≡ b → made_of R s t l (drop i words) (drop i places) ≡ stopped s t l (drop i places)
-      by true f = stops_full (ltb-true i (length words) f) (ltb-false i (length places) (subst (λ (b : Bool). (b && ltb i (length places)) ≡ false) f e))
-      by false f = stops_end (ltb-false i (length words) f)
+  stops_here e = stops (elim (dec_lt i (length words)) [ yes h ↦ stops_full h (omega arith) | no h ↦ stops_end (omega arith) ])
 
   module _ (h : i < length words) (k : i < length places) where
     -- at a word that is no call
@@ -190,6 +207,10 @@ module _ (R : Rules) (s : State) (t l words places : List ℕ) (i : ℕ) where
         ∙ sym (goes_on e))
 
 -- A run: set-up, and its calls.
+module _ (R : Rules) (n v fresh : ℕ) (t l : List ℕ) (c : Called) (t' l' : List ℕ) (o : outcome c t' l' ≡ set_up_of R n v fresh t l) where
+  pub answer_set_up : OfSetUp c.answer
+  answer_set_up = subst (λ (q : Outcome). OfSetUp q.answer) (sym o) (set_up_answer R n v fresh t l)
+
 module _ (R : Rules) (n v fresh : ℕ) (t l words places : List ℕ) where
   module _ (c : Called) (t' l' : List ℕ) (o : outcome c t' l' ≡ set_up_of R n v fresh t l) where
     runs_on : answer_word c.answer ≡ 0 → made_of R c.state t' l' words places ≡ run_words_of R n v fresh words t l places
@@ -223,7 +244,7 @@ module _ (R : Rules) (n v fresh : ℕ) (t l words places : List ℕ) where
           whole = λ k. own (take k (calls_in words places)) (low_take k (calls_in words places) (low_calls words places));
         }
 
-    pub whole_run : (m : MadeCalls) → m ≡ run_words_of R n v fresh words t l places → (set_up_of R n v fresh t l).answer ≡ Accepted
+    pub whole_run : (m : MadeCalls) → m ≡ run_words_of R n v fresh words t l places → (set_up_of R n v fresh t l).answer ≡ Ok Accepted
         → WholeRun R B W n v fresh t l words places m
     unfolding run_words_of
     whole_run m q e =
@@ -232,9 +253,11 @@ module _ (R : Rules) (n v fresh : ℕ) (t l words places : List ℕ) where
         subst (λ (m : MadeCalls). WholeRun R B W n v fresh t l words places m) (sym (q ∙ f)) whole_made
 
 -- The calls of a set-up's state are those of its kind.
-pub runs_kind : (b : Bool) (n v fresh : ℕ) (t l words places : List ℕ) (c : Called) (t' l' : List ℕ)
-    → outcome c t' l' ≡ set_up_of (rules_of b) n v fresh t l → answer_word c.answer ≡ 0
-    → made_of (rules_of c.state.head.counted) c.state t' l' words places ≡ run_words_of (rules_of b) n v fresh words t l places
-runs_kind b n v fresh t l words places c t' l' o e =
-    let kind = ap (λ (x : Outcome). x.state.head.counted) o ∙ kind_made (rules_of b) n v fresh t l ∙ kind_is b in
-    ap (λ (d : Bool). made_of (rules_of d) c.state t' l' words places) kind ∙ runs_on (rules_of b) n v fresh t l words places c t' l' o e
+pub runs_kind : (R : Rules) → rules_of R.counted ≡ R → (n v fresh : ℕ) (t l words places : List ℕ) (c : Called) (t' l' : List ℕ)
+    → outcome c t' l' ≡ set_up_of R n v fresh t l → answer_word c.answer ≡ 0
+    → made_of (rules_of c.state.head.counted) c.state t' l' words places ≡ run_words_of R n v fresh words t l places
+runs_kind R of_kind n v fresh t l words places c t' l' o e =
+    let kind = ap (λ (x : Outcome). x.state.head.counted) o ∙ kind_made R n v fresh t l in
+    ap (λ (d : Bool). made_of (rules_of d) c.state t' l' words places) kind
+    ∙ ap (λ (Q : Rules). made_of Q c.state t' l' words places) of_kind
+    ∙ runs_on R n v fresh t l words places c t' l' o e

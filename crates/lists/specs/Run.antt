@@ -5,7 +5,7 @@ use Rattle.history.specs.Bands.{NoBands}
 use Rattle.history.specs.Linearization.{Orders, NeverOlder}
 use Rattle.common.specs.declared.State.{State}
 use Rattle.common.specs.State.{is_retired, open_in}
-use Rattle.common.specs.Calls.{Call}
+use Rattle.common.specs.declared.calls.Call.{Call}
 use Rattle.common.specs.CallWords.{answer_word, calls_in}
 use Rattle.common.specs.Rules.{Rules}
 use Rattle.common.specs.SetUp.{set_up_of}

@@ -1,9 +1,8 @@
 // Lists of calls, of either register.
 #![tactic(auto)]
 
-ghost use Rattle.std.specs.Prelude.{◌≡◌};
+ghost use Rattle.std.specs.Prelude.{◌≡◌, Ok};
 ghost use Rattle.common.specs.Answers.{reply};
-ghost use Rattle.common.specs.CallWords.{call_in};
 ghost use Rattle.common.specs.SetUp.{set_up_of};
 ghost use Rattle.common.specs.Register.{call_of};
 ghost use Rattle.protocol.specs.Rules.{ticket_rules};
@@ -16,41 +15,37 @@ ghost use Rattle.kinds.specs.Rules.{rules_of};
 ghost use Rattle.register.specs.Contract.{outcome};
 ghost use Rattle.lists.specs.Run.{made_of, made_calls, run_words_of, WholeRun};
 
-use common::numbers::{answer_word, is_call};
-use common::{Answer, State};
+use common::calls::Call;
+use common::numbers::answer_word;
+use common::{Done, Refusal, State};
+use kinds::{Counting, Protocol, Tickets};
 use register::calls::{Called, begin_read, begin_write, retire, step};
 use register::set_up::set_up_of;
 
 // How many calls were made, and the state behind them.
-#[derive(Clone, Copy)]
+#[derive(Clone, Copy, Debug, PartialEq, Eq)]
 pub struct Made {
     pub made: usize,
     pub state: State,
 }
 
 // What a run gives: set-up's answer, and its calls.
-#[derive(Clone, Copy)]
+#[derive(Clone, Copy, Debug, PartialEq, Eq)]
 pub struct Ran {
-    pub answer: Answer,
+    pub answer: Result<Done, Refusal>,
     pub calls: Made,
 }
 
-// The call in a word.
-fn make_call(s: State, table: &mut [u64], log: &mut [u64], word: u64) -> Called
-    ensures { outcome result table.new log.new ≡ call_of (rules_of s.head.counted) s table.old log.old (call_in word) }
+#[tactic(auto, unfolding(common::specs::Register::call_of))]
+fn make_call(s: State, table: &mut [u64], log: &mut [u64], call: Call) -> Called
+    ensures { outcome result table.new log.new ≡ call_of (rules_of s.head.counted) s table.old log.old call }
 {
-    let kind = word / 4294967296 % 4294967296;
-    let number = (word % 4294967296) as u32;
-    if kind == 1 {
-        return begin_write(s, table, log, number);
+    match call {
+        Call::Write(value) => begin_write(s, table, log, value),
+        Call::Read(p) => begin_read(s, table, log, p),
+        Call::Step(p) => step(s, table, log, p),
+        Call::Retire(p) => retire(s, table, log, p),
     }
-    if kind == 2 {
-        return begin_read(s, table, log, number);
-    }
-    if kind == 3 {
-        return step(s, table, log, number);
-    }
-    retire(s, table, log, number)
 }
 
 // The calls in the words, from a state on, with their answers.
@@ -64,31 +59,23 @@ fn make_calls(
     ensures { made_calls result table.new log.new answers.new ≡ made_of (rules_of s.head.counted) s table.old log.old words.now answers.old }
 {
     let mut state = s;
-    let mut i = 0;
-    while (i < words.len()) & (i < answers.len()) {
-        let word = words[i];
-        if is_call(word) {
-            let o = make_call(state, table, log, word);
-            let answer = o.answer;
-            answers[i] = answer_word(answer);
-            state = o.state;
-            i += 1;
-        } else {
-            return Made {
-                made: i,
-                state: state,
-            };
-        }
+    let places = words.len().min(answers.len());
+    for i in 0..places {
+        let Some(call) = Call::from_word(words[i]) else {
+            return Made { made: i, state };
+        };
+        let o = make_call(state, table, log, call);
+        answers[i] = answer_word(o.answer);
+        state = o.state;
     }
     Made {
-        made: i,
-        state: state,
+        made: places,
+        state,
     }
 }
 
-// Set-up of a kind, and then the calls in the words, with their answers; no call if set-up is refused.
-fn run_of(
-    counted: bool,
+// Set-up, and then the calls in the words, with their answers; no call if set-up is refused.
+fn run_of<P: Protocol>(
     n: u32,
     value: u32,
     fresh: u32,
@@ -97,27 +84,16 @@ fn run_of(
     log: &mut [u64],
     answers: &mut [u64],
 ) -> Ran
-    ensures { (result.answer ≡ (set_up_of (rules_of counted) n value fresh table.old log.old).answer)
-        × (made_calls result.calls table.new log.new answers.new ≡ run_words_of (rules_of counted) n value fresh words.now table.old log.old answers.old) }
+    ensures { (result.answer ≡ (set_up_of P.rules n value fresh table.old log.old).answer)
+        × (made_calls result.calls table.new log.new answers.new ≡ run_words_of P.rules n value fresh words.now table.old log.old answers.old) }
 {
-    let o = set_up_of(counted, n, value, fresh, table, log);
-    let answer = o.answer;
-    let state = o.state;
-    if answer_word(answer) == 0 {
-        let calls = make_calls(state, words, table, log, answers);
-        return Ran {
-            answer: answer,
-            calls: calls,
-        };
+    let Called { answer, state } = set_up_of::<P>(n, value, fresh, table, log);
+    if answer.is_err() {
+        let calls = Made { made: 0, state };
+        return Ran { answer, calls };
     }
-    let calls = Made {
-        made: 0,
-        state: state,
-    };
-    Ran {
-        answer: answer,
-        calls: calls,
-    }
+    let calls = make_calls(state, words, table, log, answers);
+    Ran { answer, calls }
 }
 
 // Set-up, and then the calls in the words, with their answers; no call if set-up is refused. A word's upper half is the call's kind, 1
@@ -133,10 +109,10 @@ pub fn run(
 ) -> Ran
     ensures { (result.answer ≡ (set_up_of ticket_rules n value 0 table.old log.old).answer)
         × (made_calls result.calls table.new log.new answers.new ≡ run_words_of ticket_rules n value 0 words.now table.old log.old answers.old)
-        × (result.answer ≡ Answer.Accepted → WholeRun ticket_rules first-book.book (first-whole.Whole n value table.old log.old) n value 0 table.old log.old words.now answers.old (made_calls result.calls table.new log.new answers.new))
+        × (result.answer ≡ Ok Done.Accepted → WholeRun ticket_rules first-book.book (first-whole.Whole n value table.old log.old) n value 0 table.old log.old words.now answers.old (made_calls result.calls table.new log.new answers.new))
         × (reply result.answer ≡ reply (set_up_of ticket_rules n value 0 table.old log.old).answer) }
 {
-    run_of(false, n, value, 0, words, table, log, answers)
+    run_of::<Tickets>(n, value, 0, words, table, log, answers)
 }
 
 // The same of the counted register, with a fresh stamp too.
@@ -151,8 +127,8 @@ pub fn run_counted(
 ) -> Ran
     ensures { (result.answer ≡ (set_up_of counted_rules n value fresh table.old log.old).answer)
         × (made_calls result.calls table.new log.new answers.new ≡ run_words_of counted_rules n value fresh words.now table.old log.old answers.old)
-        × (result.answer ≡ Answer.Accepted → WholeRun counted_rules counted-book.book (counted_whole.Whole n value fresh table.old log.old) n value fresh table.old log.old words.now answers.old (made_calls result.calls table.new log.new answers.new))
+        × (result.answer ≡ Ok Done.Accepted → WholeRun counted_rules counted-book.book (counted_whole.Whole n value fresh table.old log.old) n value fresh table.old log.old words.now answers.old (made_calls result.calls table.new log.new answers.new))
         × (reply result.answer ≡ reply (set_up_of counted_rules n value fresh table.old log.old).answer) }
 {
-    run_of(true, n, value, fresh, words, table, log, answers)
+    run_of::<Counting>(n, value, fresh, words, table, log, answers)
 }

@@ -1,5 +1,5 @@
 -- Rows read from bytes.
-use Prim.Native.Nat.{ℕ, zero, suc, ◌+◌, ◌-◌, ◌*◌, ◌/◌, ◌%◌, ◌^◌, ◌≤◌, ◌<◌, min}
+use Prim.Native.Nat.{ℕ, zero, suc, ◌+◌, ◌*◌, ◌/◌, ◌%◌, ◌^◌, ◌≤◌, ◌<◌, min}
 use mathlib.Core.Path.{◌≡◌, refl, sym, ap, ◌∙◌}
 use mathlib.Core.List.{List, [], ◌∷◌, ◌++◌, append_assoc}
 use mathlib.Core.Logic.{◌≢◌}
@@ -7,9 +7,10 @@ use native.Mathlib.Omega.{arith}
 use native.Mathlib.Decide.{ℕ_discrete, dec_lt}
 use borrow.Author.Tests.{eq-eqb, ne_eqb, le-leb, lt-leb}
 use native.Mathlib.Numerals.{add-one}
-use lib.ListN.{length, drop, set, get_or, length-append, length-drop, get_or-eq_default}
+use lib.ListN.{length, take, drop, set, get_or}
 use native.Mathlib.Nat.{add-zero, add_assoc}
-use lib.Seq.{drop-cons, set_at, drop-drop, get_or-drop}
+use lib.Seq.{take-suc, drop-cons, set_at, drop-drop, get_or-drop}
+use Rattle.std.specs.Int.{w64, to_be_bytes}
 use Rattle.words.specs.Bits.{low, field}
 use Rattle.words.proofs.Laws.Bits.{split_field}
 use Rattle.logbytes.specs.Bytes.{word_at, read_rows, rows_of, read_into, rows_in, bytes_of}
@@ -48,9 +49,6 @@ read_next i b d h =
         ap (λ (k : ℕ). read_rows k b) (add-one i)
         ∙ read_suc i b
         ∙ ap (λ (w : ℕ). read_rows i b ++ (w ∷ [])) (word_behind b (i * 8))
-
-pub filled_length : (i : ℕ) (b d : List ℕ) → i ≤ length d → length (read_rows i b ++ drop i d) ≡ length d
-filled_length i b d h = simp (length-append, length-drop, read_length) (omega arith)
 
 pub read_all : (b d : List ℕ) → length b / 8 ≤ length d → read_into b d ≡ rows_of b ++ drop (length b / 8) d
 unfolding read_into rows_of
@@ -128,30 +126,23 @@ rows_bytes ws h =
     let e : length (bytes_of ws) / 8 ≡ length ws = omega (arith, bytes_length ws) in
     rw e (read_bytes ws h)
 
--- byte k of rows as bytes; behind a row it is byte k of the others
-byte_behind : (w : ℕ) (ws : List ℕ) (k n : ℕ) → n ≡ k + 8
-    → get_or (w ∷ ws) (n / 8) 0 / 2 ^ (56 - 8 * (n % 8)) % 256 ≡ get_or ws (k / 8) 0 / 2 ^ (56 - 8 * (k % 8)) % 256
-byte_behind w ws k n e =
-    let d : n / 8 ≡ suc (k / 8) = omega arith in
-    let m : n % 8 ≡ k % 8 = omega arith in
-    rw (d, m)
-
-pub byte_is : (ws : List ℕ) (k : ℕ) → k < length ws * 8 → get_or ws (k / 8) 0 / 2 ^ (56 - 8 * (k % 8)) % 256 ≡ get_or (bytes_of ws) k 0
+-- rows as bytes, row by row
+bytes_one : (w : ℕ) → bytes_of (w ∷ []) ≡ to_be_bytes w64 w
 unfolding bytes_of
-byte_is [] k h = absurd (omega arith)
-byte_is (w ∷ ws) zero h = refl
-byte_is (w ∷ ws) (suc zero) h = refl
-byte_is (w ∷ ws) (suc (suc zero)) h = refl
-byte_is (w ∷ ws) (suc (suc (suc zero))) h = refl
-byte_is (w ∷ ws) (suc (suc (suc (suc zero)))) h = refl
-byte_is (w ∷ ws) (suc (suc (suc (suc (suc zero))))) h = refl
-byte_is (w ∷ ws) (suc (suc (suc (suc (suc (suc zero)))))) h = refl
-byte_is (w ∷ ws) (suc (suc (suc (suc (suc (suc (suc zero))))))) h = omega arith
-byte_is (w ∷ ws) (suc (suc (suc (suc (suc (suc (suc (suc k)))))))) h =
-    byte_behind w ws k (suc (suc (suc (suc (suc (suc (suc (suc k)))))))) (omega arith) ∙ byte_is ws k (omega arith)
+bytes_one w = refl
 
-pub byte_beyond : (ws : List ℕ) (k : ℕ) → length ws ≤ k / 8 → 0 ≡ get_or (bytes_of ws) k 0
-byte_beyond ws k h = sym (get_or-eq_default (bytes_of ws) 0 (omega (arith, bytes_length ws)))
+bytes_append : (a b : List ℕ) → bytes_of (a ++ b) ≡ bytes_of a ++ bytes_of b
+unfolding bytes_of
+bytes_append [] b = refl
+bytes_append (w ∷ a) b =
+    λ i. field 56 8 w ∷ field 48 8 w ∷ field 40 8 w ∷ field 32 8 w ∷ field 24 8 w ∷ field 16 8 w ∷ field 8 8 w ∷ low 8 w ∷ bytes_append a b i
+
+pub bytes_next : (ws : List ℕ) (k : ℕ) → k < length ws → bytes_of (take (k + 1) ws) ≡ bytes_of (take k ws) ++ to_be_bytes w64 (get_or ws k 0)
+bytes_next ws k h =
+    ap (λ (n : ℕ). bytes_of (take n ws)) (add-one k)
+    ∙ ap bytes_of (take-suc ws k 0 h)
+    ∙ bytes_append (take k ws) (get_or ws k 0 ∷ [])
+    ∙ ap (λ (l : List ℕ). bytes_of (take k ws) ++ l) (bytes_one (get_or ws k 0))
 
 -- and the rows of bytes give the bytes back
 bytes_word : (a b c d e f g h : ℕ) (l : List ℕ) → a < 256 → b < 256 → c < 256 → d < 256 → e < 256 → f < 256 → g < 256 → h < 256

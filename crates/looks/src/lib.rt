@@ -9,8 +9,9 @@ ghost use Rattle.protocol.specs.Table.{plain};
 ghost use Rattle.protocol.specs.Read.{stamp_in, looks_first, looks_again, looks_at_other, looks_third};
 
 use common::Reader;
+use result::plain_cell;
 use words::cell::Cell;
-use words::stamp::Stamp;
+use words::stamp::{Stamp, no_stamp};
 
 pub mod result; // the cells that a read stores, and its end
 
@@ -18,8 +19,7 @@ pub mod result; // the cells that a read stores, and its end
 pub fn stamp_in(word: u64) -> Stamp
     ensures { result ≡ stamp_in word }
 {
-    let c = words::cell::unpack(word);
-    c.stamp
+    Cell::from(word).stamp
 }
 
 // The value that a cell's word shows, in either register.
@@ -33,67 +33,61 @@ pub fn value_in(word: u64) -> u32
 pub fn looks_first(r: Reader, word: u64) -> Reader
     ensures { result ≡ looks_first r word }
 {
-    let mut next = r;
-    next.look = word;
-    next.agree = true;
-    next.found = false;
-    next
+    Reader {
+        look: word,
+        agree: true,
+        found: false,
+        ..r
+    }
 }
 
 // The writer's cell, for the second time.
 pub fn looks_again(r: Reader, word: u64) -> Reader
     ensures { result ≡ looks_again r word }
 {
-    let mut next = r;
-    next.agree = words::stamp::equal(stamp_in(r.look), stamp_in(word));
-    next
+    Reader {
+        agree: stamp_in(r.look) == stamp_in(word),
+        ..r
+    }
 }
 
 // Another reader's cell: the first whose prev is the first look's cur is kept.
 pub fn looks_at_other(r: Reader, word: u64) -> Reader
     ensures { result ≡ looks_at_other r word }
 {
-    if r.found {
-        return r;
+    if !r.found && stamp_in(word).prev == stamp_in(r.look).cur {
+        Reader {
+            found: true,
+            result: word,
+            ..r
+        }
+    } else {
+        r
     }
-    let seen = stamp_in(word);
-    let first = stamp_in(r.look);
-    if seen.prev == first.cur {
-        let mut next = r;
-        next.found = true;
-        next.result = word;
-        return next;
-    }
-    r
 }
 
 // The word of a result with stamp none.
 fn unstamped(word: u64) -> u64
     ensures { result ≡ pack_cell (plain (value_in word) none) }
 {
-    let value = value_in(word);
-    let stamp = words::stamp::no_stamp();
-    words::cell::pack(Cell {
-        value: value,
-        stamp: stamp,
-        announced: stamp,
-    })
+    u64::from(plain_cell(value_in(word), no_stamp()))
 }
 
 // The writer's cell, for the third time: it decides.
 pub fn looks_third(r: Reader, word: u64) -> Reader
     ensures { result ≡ looks_third r word }
 {
-    let mut next = r;
-    let same = words::stamp::equal(stamp_in(r.look), stamp_in(word));
-    if r.agree & same {
-        if r.found {
-            return r;
-        }
-        next.result = word;
-        return next;
+    let same = stamp_in(r.look) == stamp_in(word);
+    if !(r.agree && same) {
+        return Reader {
+            second: true,
+            result: unstamped(r.look),
+            ..r
+        };
     }
-    next.second = true;
-    next.result = unstamped(r.look);
-    next
+    if r.found {
+        r
+    } else {
+        Reader { result: word, ..r }
+    }
 }

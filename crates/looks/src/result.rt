@@ -6,28 +6,27 @@ ghost use Rattle.protocol.specs.Read.{read_ends, announcing, showing};
 use super::{stamp_in, value_in};
 use common::Reader;
 use words::cell::Cell;
-use words::stamp::Stamp;
+use words::stamp::{Stamp, no_stamp};
 
 // The read is over: the result's stamp is the reader's own.
 pub fn ends(r: Reader) -> Reader
     ensures { result ≡ read_ends r }
 {
-    let stamp = stamp_in(r.result);
-    let mut next = r;
-    next.active = false;
-    next.stamp = stamp;
-    next
+    Reader {
+        active: false,
+        stamp: stamp_in(r.result),
+        ..r
+    }
 }
 
 // The cell to the writer that announces the first look's stamp.
 pub fn announcement(own: Stamp, word: u64) -> Cell
     ensures { result ≡ announcing own word }
 {
-    let seen = stamp_in(word);
     Cell {
         value: 0,
         stamp: own,
-        announced: seen,
+        announced: stamp_in(word),
     }
 }
 
@@ -35,11 +34,10 @@ pub fn announcement(own: Stamp, word: u64) -> Cell
 pub fn plain_cell(value: u32, stamp: Stamp) -> Cell
     ensures { result ≡ plain value stamp }
 {
-    let none = words::stamp::no_stamp();
     Cell {
-        value: value,
-        stamp: stamp,
-        announced: none,
+        value,
+        stamp,
+        announced: no_stamp(),
     }
 }
 
@@ -48,9 +46,10 @@ pub fn shown(word: u64) -> Cell
     ensures { result ≡ showing word }
 {
     let stamp = stamp_in(word);
-    let none = words::stamp::no_stamp();
-    if words::stamp::equal(stamp, none) {
-        return plain_cell(0, stamp);
-    }
-    plain_cell(value_in(word), stamp)
+    let value = if stamp == no_stamp() {
+        0
+    } else {
+        value_in(word)
+    };
+    plain_cell(value, stamp)
 }

@@ -3,13 +3,11 @@ ghost use Rattle.std.specs.Prelude.{◌≡◌};
 ghost use Rattle.counted.specs.Table.{row_start, in_row};
 
 // Where the row of processor i starts.
+#[tactic(auto, unfolding(counted::specs::Table::row_start))]
 pub fn row_start(n: u32, i: u32) -> usize
     ensures { result ≡ row_start n i }
 {
-    if i == 0 {
-        return 0;
-    }
-    if n == 0 {
+    if i == 0 || n == 0 {
         return 0;
     }
     let m = n as usize;
@@ -18,17 +16,15 @@ pub fn row_start(n: u32, i: u32) -> usize
 }
 
 // Where in the row of processor i the cell to reader j stands.
+#[tactic(auto, unfolding(counted::specs::Table::in_row))]
 pub fn in_row(i: u32, j: u32) -> usize
     ensures { result ≡ in_row i j }
 {
     if j < 2 {
-        return 0;
+        0
+    } else if i == 0 || j < i {
+        j as usize - 1
+    } else {
+        j as usize - 2
     }
-    if i == 0 {
-        return j as usize - 1;
-    }
-    if j < i {
-        return j as usize - 1;
-    }
-    j as usize - 2
 }

@@ -5,12 +5,9 @@ ghost use Rattle.counted.specs.State.{reader_ok};
 use common::Reader;
 
 // Whether a reader is in range, of n.
+#[tactic(auto, unfolding(counted::specs::State::reader_ok))]
 pub fn reader_ok(r: Reader, n: u8) -> bool
     ensures { result ≡ reader_ok n r }
 {
-    if r.active {
-        let k = r.moved as u32 + 1;
-        return k < 2 * n as u32;
-    }
-    true
+    !r.active || r.moved as u32 + 1 < 2 * n as u32
 }

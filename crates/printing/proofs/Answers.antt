@@ -1,4 +1,5 @@
 -- What a call answers and leaves, as far as the print needs it.
+use Rattle.std.specs.Prelude.{Ok, Err}
 use Prim.Native.Nat.{ℕ, ◌+◌, ◌-◌, ◌*◌, ◌^◌, ◌≤◌, ◌<◌}
 use native.Mathlib.Omega.{arith}
 use mathlib.Core.Path.{◌≡◌, refl, ◌∙◌}
@@ -11,9 +12,10 @@ use Rattle.words.specs.Choice.{pick}
 use Rattle.words.specs.Row.{row_of}
 use Rattle.words.proofs.Laws.Choice.{pick_ind}
 use Rattle.common.specs.declared.State.{State}
-use Rattle.common.specs.declared.Answer.{Answer}
-use Rattle.common.specs.declared.Answer.TheVariants.{Accepted, Moved, Refused}
-use Rattle.common.specs.Calls.{Call, write, read, step, retire}
+use Rattle.common.specs.Answers.{Answer}
+use Rattle.common.specs.declared.Done.TheVariants.{Accepted, Moved}
+use Rattle.common.specs.declared.calls.Call.{Call}
+use Rattle.common.specs.declared.calls.Call.TheVariants.{Write as write, Read as read, Step as step, Retire as retire}
 use Rattle.common.specs.Head.{has_room}
 use Rattle.common.specs.State.{reader_at, is_retired, value_in}
 use Rattle.common.specs.Rules.{state_ok, InRange}
@@ -27,9 +29,9 @@ use Rattle.protocol.proofs.Range.{writer_in, reader_in}
 
 -- a sub-step's number has 32 bits
 abbrev pub Low : Answer → Type 0
-Low Accepted = Unit {0}
-Low (Moved k) = k < 2 ^ 32
-Low (Refused r) = Unit {0}
+Low (Ok Accepted) = Unit {0}
+Low (Ok (Moved k)) = k < 2 ^ 32
+Low (Err r) = Unit {0}
 
 -- so has that of a call that leaves o, and the log l keeps its length
 abbrev Plain : List ℕ → Outcome → Type 0

@@ -1,4 +1,5 @@
 -- Runs of the register as its book tells them: they always end with an order. So does the bench's print.
+use Rattle.std.specs.Prelude.{Ok}
 use Prim.Native.Nat.{ℕ, ◌+◌, ◌*◌, ◌^◌, ◌≤◌, ◌<◌}
 use native.Mathlib.Omega.{arith}
 use mathlib.Core.Path.{◌≡◌, refl, ap, subst}
@@ -15,9 +16,10 @@ use Rattle.history.proofs.Theorems.{ordered_if_swept}
 use Rattle.judging.specs.Meaning.{Formed}
 use Rattle.judging.proofs.Asked.{none, cases_are}
 use Rattle.judging.proofs.Steps.{begins_few, some}
-use Rattle.common.specs.declared.Answer.TheVariants.{Accepted}
+use Rattle.common.specs.declared.Done.TheVariants.{Accepted}
 use Rattle.common.specs.Answers.{number_of}
-use Rattle.common.specs.Calls.{Call, LowCalls}
+use Rattle.common.specs.Calls.{LowCalls}
+use Rattle.common.specs.declared.calls.Call.{Call}
 use Rattle.common.specs.CallWords.{call_in}
 use Rattle.common.specs.SetUp.{rows_fit, set_up_of}
 use Rattle.common.specs.Register.{Ran, ran_from}
@@ -34,7 +36,7 @@ use Rattle.printing.proofs.Calls.{made}
 use Rattle.printing.proofs.Laws.{cells_fit}
 
 -- The set-up of 1 to 16 readers, with a log of 3 to 4,096 rows.
-pub set_up_accepted : (n v : ℕ) (l : List ℕ) → 1 ≤ n → n ≤ 16 → rows_fit (length l) ≡ true → (set_up_of ticket_rules n v 0 lent_cells l).answer ≡ Accepted
+pub set_up_accepted : (n v : ℕ) (l : List ℕ) → 1 ≤ n → n ≤ 16 → rows_fit (length l) ≡ true → (set_up_of ticket_rules n v 0 lent_cells l).answer ≡ Ok Accepted
 unfolding set_up_of
 set_up_accepted n v l a b c = rw (le-leb 1 n a, le-leb n 16 b, le-leb (n * n + n) 272 (cells_fit n b), c)
 

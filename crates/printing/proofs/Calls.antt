@@ -10,7 +10,7 @@ use lib.Dec.{eqb, ltb}
 use lib.ListN.{length, get_or, take, drop, length-take, drop_of_length-le}
 use borrow.Author.Tests.{ltb-true}
 use Rattle.words.proofs.Laws.Choice.{pick_ind, pick_yes, left, right}
-use Rattle.common.specs.Calls.{Call}
+use Rattle.common.specs.declared.calls.Call.{Call}
 use Rattle.common.specs.CallWords.{kind_of, is_call, call_in, calls_in}
 use Rattle.fields.specs.Fields.{place_of, none, number_in}
 use Rattle.fields.proofs.FieldLaws.{number_none}

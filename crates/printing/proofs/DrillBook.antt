@@ -1,4 +1,5 @@
 -- A drill's line as the register's book tells it; and it always ends with an order.
+use Rattle.std.specs.Prelude.{Ok, Err}
 use Prim.Native.Nat.{ℕ, ◌^◌, ◌≤◌, ◌<◌}
 use mathlib.Core.Path.{◌≡◌, refl}
 use mathlib.Core.Bool.{true, false}
@@ -8,7 +9,7 @@ use lib.ListN.{drop}
 use borrow.Author.Tests.{leb-true}
 use Rattle.words.proofs.Laws.Choice.{left, right}
 use Rattle.history.specs.Listing.{listing}
-use Rattle.common.specs.declared.Answer.TheVariants.{Accepted, Refused}
+use Rattle.common.specs.declared.Done.TheVariants.{Accepted}
 use Rattle.common.specs.declared.Refusal.TheVariants.{Readers}
 use Rattle.common.specs.Calls.{LowCalls}
 use Rattle.common.specs.SetUp.{readers_fit, set_up_of}
@@ -23,11 +24,11 @@ use Rattle.printing.proofs.Book.{set_up_accepted, book_rows, run_as_book, run_en
 
 -- "then n not 1 to 16 `refused 1`": so says the set-up, and it refuses nothing else
 module _ (n v : ℕ) where
-  pub refused_as_set_up : readers_fit n ≡ false → (set_up_of ticket_rules n v 0 lent_cells drill_rows).answer ≡ Refused Readers
+  pub refused_as_set_up : readers_fit n ≡ false → (set_up_of ticket_rules n v 0 lent_cells drill_rows).answer ≡ Err Readers
   unfolding set_up_of
   refused_as_set_up e = rw e
 
-  pub accepted : readers_fit n ≡ true → (set_up_of ticket_rules n v 0 lent_cells drill_rows).answer ≡ Accepted
+  pub accepted : readers_fit n ≡ true → (set_up_of ticket_rules n v 0 lent_cells drill_rows).answer ≡ Ok Accepted
   accepted e =
       set_up_accepted n v drill_rows (leb-true 1 n (left (leb 1 n) (leb n 16) e)) (leb-true n 16 (right (leb 1 n) (leb n 16) e)) refl
 

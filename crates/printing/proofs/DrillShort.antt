@@ -8,7 +8,7 @@ use lib.Dec.{leb}
 use lib.ListN.{length, take, drop, length-append, length-take}
 use borrow.Author.Tests.{leb-true}
 use Rattle.words.proofs.Laws.Choice.{pick_ind, right}
-use Rattle.common.specs.declared.Answer.{Answer}
+use Rattle.common.specs.Answers.{Answer}
 use Rattle.common.specs.SetUp.{readers_fit, set_up_of}
 use Rattle.protocol.specs.Rules.{ticket_rules}
 use Rattle.schedules.specs.Schedules.{Turn, schedules}

@@ -1,4 +1,5 @@
 -- What the book answers in a drill: both begins are accepted, and a turn moves a word or is refused 8.
+use Rattle.std.specs.Prelude.{Ok, Err}
 use Prim.Native.Nat.{ℕ, suc, ◌≤◌}
 use native.Mathlib.Omega.{arith}
 use mathlib.Core.Path.{◌≡◌, refl, ap}
@@ -10,10 +11,10 @@ use Rattle.words.proofs.Laws.Counting.{count_nowhere}
 use Rattle.words.proofs.Laws.Update.{upd_same, upd_first}
 use Rattle.words.specs.declared.stamp.Stamp.{Stamp}
 use Rattle.words.specs.declared.cell.Cell.{Cell}
-use Rattle.common.specs.declared.Answer.{Answer}
-use Rattle.common.specs.declared.Answer.TheVariants.{Accepted, Moved, Refused}
+use Rattle.common.specs.Answers.{Answer}
+use Rattle.common.specs.declared.Done.TheVariants.{Accepted, Moved}
 use Rattle.common.specs.declared.Refusal.TheVariants.{Idle}
-use Rattle.common.specs.Calls.{read, write}
+use Rattle.common.specs.declared.calls.Call.TheVariants.{Read as read, Write as write}
 use Rattle.common.specs.Book.{Operation, idle, open_with, is_open, Model, open_at, begins, begun, moves_write, moves_read, told, kept, fresh_model}
 use Rattle.common.specs.Whole.{model_of}
 use Rattle.protocol.specs.Reference.{book}
@@ -21,9 +22,9 @@ use Rattle.schedules.specs.Schedules.{Turn, w, r}
 use Rattle.printing.specs.Drill.{turn_call, drill_calls, drill_rows}
 
 abbrev Turned : Answer → Type 0
-Turned Accepted = ⊥
-Turned (Moved k) = Unit {0}
-Turned (Refused x) = x ≡ Idle
+Turned (Ok Accepted) = ⊥
+Turned (Ok (Moved k)) = Unit {0}
+Turned (Err x) = x ≡ Idle
 
 abbrev pub AllTurned : List Answer → Type 0
 AllTurned [] = Unit {0}
@@ -77,7 +78,7 @@ module _ (n start v : ℕ) (one_reader : 1 ≤ n) where
       )
 
   -- "begins a write of v and then a read, runs the turns": "Turns after an end are refused 8"
-  pub answered : (s : List Turn) → (take 2 (model_of book n start 0 drill_rows (drill_calls v s)).answers ≡ Accepted ∷ Accepted ∷ [])
+  pub answered : (s : List Turn) → (take 2 (model_of book n start 0 drill_rows (drill_calls v s)).answers ≡ Ok Accepted ∷ Ok Accepted ∷ [])
       × AllTurned (drop 2 (model_of book n start 0 drill_rows (drill_calls v s)).answers)
   unfolding kept
   answered s = rw (write_begun_lem, read_begun_lem) (refl, turns_told n 5 one_reader s (begun writing 1 3 0).model (λ p. refl))

@@ -3,7 +3,7 @@ use Prim.Native.Nat.{ℕ, zero, suc, ◌*◌, ◌^◌, ◌≤◌, ◌<◌}
 use native.Mathlib.Omega.{arith}
 use mathlib.Core.Path.{refl}
 use mathlib.Core.List.{List, ◌++◌}
-use lib.ListN.{length, get_or, length-append}
+use lib.ListN.{length, length-append}
 use Rattle.history.specs.Rows.{processor_at}
 use Rattle.history.specs.History.{history_of}
 use Rattle.history.specs.Sweep.{missing}
@@ -11,8 +11,8 @@ use Rattle.history.specs.Listing.{listing}
 use Rattle.judging.specs.Answer.{begins_to}
 use Rattle.judging.specs.Meaning.{Formed}
 use Rattle.judging.proofs.Asked.{tested, Asked, no9, no10, no11, no12, none, ask, said, cases_are}
-use Rattle.lags.specs.Sheet.{reads_of, lags_of, over_readers, lines_in, figures_in}
-use Rattle.lags.specs.declared.Lines.{Lines}
+use Rattle.lags.specs.Sheet.{reads_of, lags_of, over_readers, lines_in, line_at, figures_in}
+use Rattle.lags.specs.declared.Line.{Line}
 use Rattle.lags.proofs.Totals.{readers_few}
 use Rattle.lags.proofs.Filling.{lines_small}
 use Rattle.lags.proofs.Figured.{totals_small}
@@ -44,13 +44,13 @@ reader_short i k s a b c =
       lag_short k s b c,
     )
 
-lines_short : (l : Lines) → ((i : ℕ) → get_or l.reads i 0 < 2 ^ 32) × ((i : ℕ) → get_or l.lags i 0 < 2 ^ 32) → (n : ℕ) → n ≤ 16
+lines_short : (l : List Line) → ((i : ℕ) → (line_at l i).reads < 2 ^ 32) × ((i : ℕ) → (line_at l i).lags < 2 ^ 32) → (n : ℕ) → n ≤ 16
     → length (reader_lines l n) ≤ 80 * n
 unfolding reader_lines
 lines_short l b zero h = omega arith
 lines_short l b (suc n) h =
-    let k = get_or l.reads (suc n) 0 in
-    let s = get_or l.lags (suc n) 0 in
+    let k = (line_at l (suc n)).reads in
+    let s = (line_at l (suc n)).lags in
     omega (
       arith,
       length-append (reader_lines l n) (reader_line (suc n) k s),

@@ -1,4 +1,5 @@
 -- No print is longer than the buffer that its program lends.
+use Rattle.std.specs.Prelude.{Ok, Err}
 use Prim.Native.Nat.{ℕ, zero, suc, ◌+◌, ◌*◌, ◌%◌, ◌^◌, ◌≤◌, ◌<◌, min}
 use native.Mathlib.Omega.{arith}
 use native.Mathlib.Decide.{dec_lt}
@@ -29,11 +30,10 @@ use Rattle.judging.proofs.Steps.{begins_few, some}
 use Rattle.judging.proofs.Places.{length_inserted}
 use Rattle.judging.proofs.Room.{room, room_unended, keys_of_lem}
 use Rattle.judging.proofs.Listed.{listed}
-use Rattle.common.specs.declared.Answer.{Answer}
-use Rattle.common.specs.declared.Answer.TheVariants.{Accepted, Moved, Refused}
+use Rattle.common.specs.declared.Done.TheVariants.{Accepted, Moved}
 use Rattle.common.specs.declared.Refusal.{Refusal}
 use Rattle.common.specs.declared.Refusal.TheVariants.{Readers, Cells, Rows, Range, Processor, Busy, Full, Idle, Retired, Spent}
-use Rattle.common.specs.Answers.{refusal_number, number_of}
+use Rattle.common.specs.Answers.{Answer, refusal_number, number_of}
 use Rattle.common.specs.CallWords.{call_in}
 use Rattle.common.specs.SetUp.{Outcome, set_up_of}
 use Rattle.common.specs.Register.{run_of}
@@ -141,9 +141,9 @@ refusal_low Retired = omega arith
 refusal_low Spent = omega arith
 
 number_low : (a : Answer) → number_of a ≤ 14
-number_low Accepted = omega arith
-number_low (Moved k) = omega arith
-number_low (Refused r) = refusal_low r
+number_low (Ok Accepted) = omega arith
+number_low (Ok (Moved k)) = omega arith
+number_low (Err r) = refusal_low r
 
 refusal_few : (a : Answer) → length (refusal_of a) ≤ 29
 unfolding refusal_of

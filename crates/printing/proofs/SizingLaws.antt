@@ -9,7 +9,7 @@ use lib.ListN.{length, take}
 use Rattle.words.proofs.Laws.Choice.{pick_two}
 use Rattle.common.specs.SetUp.{readers_fit}
 use Rattle.figures.specs.Sizing.{rows_for, most_of, most_rows, size_of}
-use Rattle.figures.specs.declared.Sizing.{Sizing}
+use Rattle.figures.specs.Sizing.{Sizing}
 use Rattle.fields.specs.Fields.{all_numbers, first_numbers, given, one_line}
 use Rattle.fields.proofs.OneLine.{long_line, good_line}
 use Rattle.lines.specs.Lines.{bad_line}

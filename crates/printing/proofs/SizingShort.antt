@@ -10,8 +10,9 @@ use borrow.Author.Tests.{leb-true}
 use Rattle.words.specs.Choice.{pick}
 use Rattle.words.proofs.Laws.Choice.{pick_ind, left, right}
 use Rattle.common.specs.SetUp.{readers_fit}
-use Rattle.figures.specs.declared.Sizing.{Sizing}
-use Rattle.figures.specs.declared.Sizing.TheVariants.{Refused, Larger, TooLong, Sized}
+use Rattle.figures.specs.Sizing.{Sizing}
+use Rattle.figures.specs.declared.NoFigures.TheVariants.{Refused, Larger, TooLong}
+use Rattle.std.proofs.Common.{Ok, Err}
 use Rattle.figures.specs.Sizing.{rows_for, write_words, read_words, second_words, least_words, most_words, most_of, most_rows, size_of}
 use Rattle.fields.specs.Fields.{given, one_line_of}
 use Rattle.lines.specs.Ascii.{ascii}
@@ -91,17 +92,17 @@ module _ (name : List ℕ) (h : length name ≤ 7) where
 
   answer_short : (s : Sizing) → Few s → length (answer_line name s) ≤ 87
   unfolding answer_line
-  answer_short Refused f = omega (arith, refused_short 1 (omega arith))
-  answer_short Larger f = omega (arith, line_short (ascii "more than ") 2000 (omega arith))
-  answer_short TooLong f =
-      let R = decimal (value_of TooLong 0) in
+  answer_short (Err Refused) f = omega (arith, refused_short 1 (omega arith))
+  answer_short (Err Larger) f = omega (arith, line_short (ascii "more than ") 2000 (omega arith))
+  answer_short (Err TooLong) f =
+      let R = decimal (value_of (Err TooLong) 0) in
       omega (
         arith,
         length-append (ascii "more than " ++ R) (ascii " rows\n"),
         length-append (ascii "more than ") R,
-        decimal_short (value_of TooLong 0) (omega arith),
+        decimal_short (value_of (Err TooLong) 0) (omega arith),
       )
-  answer_short (Sized g) f = figures_short (Sized g) f
+  answer_short (Ok g) f = figures_short (Ok g) f
 
 text_short : (n writes reads : ℕ) → length (sizing_text n writes reads) ≤ 256
 unfolding sizing_text

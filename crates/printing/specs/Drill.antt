@@ -2,10 +2,10 @@
 use Rattle.std.specs.Prelude.{ℕ, ◌+◌, Bool, ◌&&◌, eqb, leb, length, get_or, take, drop, replicate}
 use mathlib.Core.List.{List, [], ◌∷◌, ◌++◌, map, flat_map}
 use Rattle.words.specs.Choice.{pick}
-use Rattle.common.specs.declared.Answer.{Answer}
 use Rattle.common.specs.declared.Refusal.TheVariants.{Readers}
-use Rattle.common.specs.Answers.{refusal_number, number_of}
-use Rattle.common.specs.Calls.{Call, write, read, step}
+use Rattle.common.specs.Answers.{Answer, refusal_number, number_of}
+use Rattle.common.specs.declared.calls.Call.{Call}
+use Rattle.common.specs.declared.calls.Call.TheVariants.{Write as write, Read as read, Step as step}
 use Rattle.common.specs.SetUp.{readers_fit}
 use Rattle.common.specs.Register.{Ran, ran_from}
 use Rattle.protocol.specs.Rules.{ticket_rules}

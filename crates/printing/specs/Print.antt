@@ -2,8 +2,7 @@
 use Rattle.std.specs.Prelude.{ℕ, ◌+◌, Bool, ◌&&◌, eqb, leb, ltb, length, get_or, take, replicate}
 use mathlib.Core.List.{List, [], ◌++◌, map, flat_map}
 use Rattle.words.specs.Choice.{pick}
-use Rattle.common.specs.declared.Answer.{Answer}
-use Rattle.common.specs.Answers.{number_of}
+use Rattle.common.specs.Answers.{Answer, number_of}
 use Rattle.common.specs.CallWords.{call_in}
 use Rattle.common.specs.SetUp.{Outcome, set_up_of}
 use Rattle.common.specs.Register.{run_of}

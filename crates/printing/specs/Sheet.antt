@@ -1,8 +1,8 @@
 -- What the program `sheet` prints: the course sheet (document 02, card 10).
-use Rattle.std.specs.Prelude.{ℕ, suc, zero, List, [], ◌++◌, length, get_or}
+use Rattle.std.specs.Prelude.{ℕ, suc, zero, List, [], ◌++◌, length}
 use Rattle.judging.specs.Answer.{begins_to, cases}
-use Rattle.lags.specs.Sheet.{figures_in}
-use Rattle.lags.specs.declared.Lines.{Lines}
+use Rattle.lags.specs.Sheet.{figures_in, line_at}
+use Rattle.lags.specs.declared.Line.{Line}
 use Rattle.lags.specs.declared.Figures.{Figures}
 use Rattle.lines.specs.Ascii.{ascii}
 use Rattle.lines.specs.Lines.{decimal, line_of, refused_line, no_order_line}
@@ -17,9 +17,9 @@ unfoldable pub reader_line : ℕ → ℕ → ℕ → List ℕ
 reader_line i k s = ascii "reader " ++ decimal i ++ lag_end k s
 
 -- "per reader": the lines of the readers 1..n
-unfoldable pub reader_lines : Lines → ℕ → List ℕ
+unfoldable pub reader_lines : List Line → ℕ → List ℕ
 reader_lines l zero = []
-reader_lines l (suc i) = reader_lines l i ++ reader_line (suc i) (get_or l.reads (suc i) 0) (get_or l.lags (suc i) 0)
+reader_lines l (suc i) = reader_lines l i ++ reader_line (suc i) (line_at l (suc i)).reads (line_at l (suc i)).lags
 
 -- "and the totals": `all reads k lag s`
 unfoldable pub figures_text : Figures → List ℕ

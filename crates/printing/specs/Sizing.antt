@@ -1,8 +1,8 @@
 -- What the program `sizing` prints (document 02, card 14), of the bytes of its input.
-use Rattle.std.specs.Prelude.{ℕ, Bool, true, false, List, [], ◌++◌, get_or}
+use Rattle.std.specs.Prelude.{ℕ, Bool, true, false, List, [], ◌++◌, get_or, Ok, Err}
 use Rattle.words.specs.Choice.{pick}
-use Rattle.figures.specs.declared.Sizing.{Sizing}
-use Rattle.figures.specs.declared.Sizing.TheVariants.{Refused, Larger, TooLong, Sized}
+use Rattle.figures.specs.Sizing.{Sizing}
+use Rattle.figures.specs.declared.NoFigures.TheVariants.{Refused, Larger, TooLong}
 use Rattle.figures.specs.Sizing.{size_of, sizing_reply}
 use Rattle.fields.specs.Fields.{given, one_line_of}
 use Rattle.lines.specs.Ascii.{ascii}
@@ -26,16 +26,16 @@ figures_line name s =
 -- "Question 1 comes first; then larger numbers, then more rows than 4,096, each get a plain answer of their own, no figures and no refusal.":
 -- `refused 1`, `more than 2000`, `more than 4096 rows`
 unfoldable pub answer_line : List ℕ → Sizing → List ℕ
-answer_line name Refused = refused_line (sizing_reply Refused).number
-answer_line name Larger = line_of (ascii "more than ") (value_of Larger 0)
-answer_line name TooLong = ascii "more than " ++ decimal (value_of TooLong 0) ++ ascii " rows\n"
-answer_line name (Sized f) = figures_line name (Sized f)
+answer_line name (Err Refused) = refused_line (sizing_reply (Err Refused)).number
+answer_line name (Err Larger) = line_of (ascii "more than ") (value_of (Err Larger) 0)
+answer_line name (Err TooLong) = ascii "more than " ++ decimal (value_of (Err TooLong) 0) ++ ascii " rows\n"
+answer_line name (Ok f) = figures_line name (Ok f)
 
 abbrev pub has_figures : Sizing → Bool
-has_figures Refused = false
-has_figures Larger = false
-has_figures TooLong = false
-has_figures (Sized f) = true
+has_figures (Err Refused) = false
+has_figures (Err Larger) = false
+has_figures (Err TooLong) = false
+has_figures (Ok f) = true
 
 -- "Both registers": `tickets` is the first, `counted` the second; an answer without figures is the whole print
 unfoldable pub sizing_text : ℕ → ℕ → ℕ → List ℕ

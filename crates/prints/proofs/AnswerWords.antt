@@ -1,4 +1,5 @@
 -- The answers' words: their upper halves are the refusal numbers.
+use Rattle.std.specs.Prelude.{Ok, Err}
 use Prim.Native.Nat.{ℕ}
 use native.Mathlib.Omega.{arith}
 use mathlib.Core.Path.{◌≡◌, refl, ap}
@@ -6,11 +7,10 @@ use mathlib.Core.List.{List, [], ◌∷◌, map, flat_map}
 use lib.Dec.{eqb}
 use Rattle.words.specs.Choice.{pick}
 use Rattle.common.specs.declared.State.{State}
-use Rattle.common.specs.declared.Answer.{Answer}
-use Rattle.common.specs.declared.Answer.TheVariants.{Accepted, Moved, Refused}
-use Rattle.common.specs.Answers.{number_of}
+use Rattle.common.specs.declared.Done.TheVariants.{Accepted, Moved}
+use Rattle.common.specs.Answers.{Answer, number_of}
 use Rattle.common.specs.CallWords.{answer_word}
-use Rattle.common.specs.Calls.{Call}
+use Rattle.common.specs.declared.calls.Call.{Call}
 use Rattle.common.specs.Register.{call_of, run_of}
 use Rattle.protocol.specs.Rules.{ticket_rules}
 use Rattle.lines.specs.Lines.{refused_line}
@@ -19,9 +19,9 @@ use Rattle.printing.proofs.Answers.{Low, plain_call}
 use Rattle.prints.specs.Words.{refusal_in, refusal_text}
 
 pub number_is : (a : Answer) → Low a → refusal_in (answer_word a) ≡ number_of a
-number_is Accepted h = refl
-number_is (Moved k) h = omega arith
-number_is (Refused r) h = omega arith
+number_is (Ok Accepted) h = refl
+number_is (Ok (Moved k)) h = omega arith
+number_is (Err r) h = omega arith
 
 text_is : (a : Answer) → Low a → refusal_text (answer_word a) ≡ refusal_of a
 unfolding refusal_text refusal_of

@@ -10,11 +10,11 @@ use lib.Seq.{sets}
 use borrow.Author.Tests.{ne_eqb, lt-ltb, le-ltb, le-leb}
 use Rattle.words.specs.Choice.{pick}
 use Rattle.common.specs.CallWords.{call_in, calls_in}
-use Rattle.fields.specs.Fields.{place_of, none, numbers_in, all_numbers}
-use Rattle.fields.proofs.NumberLaws.{good_places}
+use Rattle.fields.specs.Fields.{place_of, numbers_in, all_numbers}
 use Rattle.script.specs.Script.{calls_from, end_from, Reads}
 use Rattle.script.proofs.ScriptLaws.{calls_fit}
-use Rattle.lines.specs.Lines.{bad_line, Puts}
+use Rattle.lines.specs.Lines.{bad_line}
+use Rattle.lines.specs.Adds.{Adds, Sink}
 use Rattle.lines.proofs.Puts.{sets_front}
 use Rattle.printing.specs.Print.{log_print, second_line, calls, calls_print, register_print, first_numbers, good_first, bench_print}
 use Rattle.prints.specs.Words.{bad_number, ending, most_calls, run_print, script_print}
@@ -54,11 +54,11 @@ module _ (n v : ℕ) (b : List ℕ) (h : length b ≤ 65536) where
       ∙ run_is
 
 -- The cases of an input.
-pub too_long : (b : List ℕ) {l x : List ℕ} {p r : ℕ} → 65536 < length b → Puts (bad_line 1) p l x r → Puts (bench_print b) p l x r
+pub too_long : (b : List ℕ) {old new : Sink} → 65536 < length b → Adds (bad_line 1) old new → Adds (bench_print b) old new
 too_long b h a = rw (long_input b h) a
 
 module _ (b : List ℕ) (e : ℕ) (h : length b ≤ 65536) (at : e ≡ place_of 10 b 0) where
-  pub no_feed : {l x : List ℕ} {p r : ℕ} → length b ≤ e → Puts (bad_line 1) p l x r → Puts (bench_print b) p l x r
+  pub no_feed : {old new : Sink} → length b ≤ e → Adds (bad_line 1) old new → Adds (bench_print b) old new
   unfolding bench_print good_first
   no_feed i a = rw (le-leb (length b) 65536 h, le-ltb (place_of 10 b 0) (length b) (omega arith)) a
 
@@ -71,28 +71,23 @@ module _ (b : List ℕ) (e : ℕ) (h : length b ≤ 65536) (at : e ≡ place_of 
     unfolding good_first
     first_is = rw (le-leb (length b) 65536 h, lt-ltb (place_of 10 b 0) (length b) (omega arith)) (sym good_is)
 
-    pub bad_first : {l y : List ℕ} {p r : ℕ} → t ≡ false → Puts (bad_line 1) p l y r → Puts (bench_print b) p l y r
+    pub bad_first : {old new : Sink} → t ≡ false → Adds (bad_line 1) old new → Adds (bench_print b) old new
     unfolding bench_print
     bad_first f a = rw (first_is ∙ f) a
 
-    module _ (x : List ℕ) (put : x ≡ sets (replicate 2 0) 0 (numbers_in (take e b))) (f : t ≡ true) where
-      places : (x ≡ first_numbers b) × ((j : ℕ) → j < 2 → get_or x j 0 < none)
-      places =
-          good_places 2 (first_numbers b) (sym good_is ∙ f) (replicate 2 0) x refl
-          (put ∙ ap (λ (k : ℕ). sets (replicate 2 0) 0 (numbers_in (take k b))) at)
+    module _ (x : List ℕ) (put : x ≡ numbers_in (take e b)) (f : t ≡ true) where
+      places : x ≡ first_numbers b
+      places = put ∙ ap (λ (k : ℕ). numbers_in (take k b)) at
 
-      pub low_number : (j : ℕ) → j < 2 → get_or x j 0 < none
-      low_number = places.1
-
-      pub good_first_lem : {l y : List ℕ} {p r : ℕ} → Puts (script_print (get_or x 0 0) (get_or x 1 0) b (e + 1)) p l y r
-          → Puts (bench_print b) p l y r
+      pub good_first_lem : {old new : Sink} → Adds (script_print (get_or x 0 0) (get_or x 1 0) b (e + 1)) old new
+          → Adds (bench_print b) old new
       unfolding bench_print
-      good_first_lem {l} {y} {p} {r} a =
+      good_first_lem {old} {new} a =
           rw (first_is ∙ f)
-          (subst (λ (s : List ℕ). Puts s p l y r)
+          (subst (λ (s : List ℕ). Adds s old new)
           (ap (λ (k : ℕ). script_print (get_or x 0 0) (get_or x 1 0) b (k + 1)) at
           ∙ script_is (get_or x 0 0) (get_or x 1 0) b h
-          ∙ ap (λ (ns : List ℕ). register_print (get_or ns 0 0) (get_or ns 1 0) b) places.0)
+          ∙ ap (λ (ns : List ℕ). register_print (get_or ns 0 0) (get_or ns 1 0) b) places)
           a)
 
 -- The calls that were read are at the front of their words.
@@ -123,11 +118,11 @@ module _ (b : List ℕ) (from : ℕ) (w : List ℕ) (c e : ℕ) (r : Reads b fro
       let e : c ≡ length (take c w) = count_is ∙ sym (ap length front) in
       (omega (arith, length-take c w), e)
 
-  pub script_put : (n v bad : ℕ) {l x : List ℕ} {p q : ℕ} → bad ≡ bad_number c e (length b) → Puts (run_print n v (take c w) bad) p l x q
-      → Puts (script_print n v b from) p l x q
+  pub script_put : (n v bad : ℕ) {old new : Sink} → bad ≡ bad_number c e (length b) → Adds (run_print n v (take c w) bad) old new
+      → Adds (script_print n v b from) old new
   unfolding script_print
-  script_put n v bad {l} {x} {p} {q} i a =
-      subst (λ (s : List ℕ). Puts s p l x q)
+  script_put n v bad {old} {new} i a =
+      subst (λ (s : List ℕ). Adds s old new)
       (ap (λ (k : ℕ). run_print n v (take c w) k) i
       ∙ ap (λ (k : ℕ). run_print n v (take c w) (bad_number k e (length b))) count_is
       ∙ ap (λ (k : ℕ). run_print n v (take c w) (bad_number (length found) k (length b))) (r.end_is ∙ ap (λ (k : ℕ). end_from k b from) room)

@@ -1,4 +1,5 @@
 -- What the calls of a run leave, in any table and log, and any places for the answers.
+use Rattle.std.specs.Prelude.{Ok}
 use Prim.Native.Nat.{ℕ, ◌≤◌}
 use native.Mathlib.Omega.{arith}
 use mathlib.Core.Path.{◌≡◌, sym, ap, ◌∙◌}
@@ -6,9 +7,9 @@ use mathlib.Core.List.{List, map}
 use lib.ListN.{length, take, drop, length-take, length-map}
 use lib.Seq.{take_at}
 use borrow.Author.Tests.{eq-eqb}
-use Rattle.common.specs.declared.Answer.TheVariants.{Accepted}
+use Rattle.common.specs.declared.Done.TheVariants.{Accepted}
 use Rattle.common.specs.CallWords.{answer_word, calls_in}
-use Rattle.common.specs.Calls.{Call}
+use Rattle.common.specs.declared.calls.Call.{Call}
 use Rattle.common.specs.SetUp.{Outcome, set_up_of}
 use Rattle.common.specs.Register.{Ran, run_of}
 use Rattle.protocol.specs.Rules.{ticket_rules}
@@ -21,7 +22,7 @@ module _ (n v : ℕ) (t l words places : List ℕ) (m : MadeCalls) where
   abbrev set_up : Outcome
   set_up = set_up_of ticket_rules n v 0 t l
 
-  module _ (s : set_up.answer ≡ Accepted) (i : m ≡ run_words_of ticket_rules n v 0 words t l places) where
+  module _ (s : set_up.answer ≡ Ok Accepted) (i : m ≡ run_words_of ticket_rules n v 0 words t l places) where
     abbrev calls : List Call
     calls = calls_in words places
 

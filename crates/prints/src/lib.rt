@@ -1,4 +1,4 @@
-// What the programs print, put into lent bytes. What does not fit is left out, and each function gives the place behind what it has put.
+// What the programs print, put into lent bytes. What does not fit is left out.
 #![tactic(auto)]
 
 pub mod verdict; // the line of the judge's verdict

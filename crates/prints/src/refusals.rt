@@ -1,30 +1,25 @@
 // The refused calls.
 ghost use mathlib.Core.List.{flat_map};
-ghost use Rattle.lines.specs.Lines.{Puts};
+ghost use Rattle.lines.specs.Adds.{Adds};
 ghost use Rattle.prints.specs.Words.{refusal_text};
 
-use lines::put_refused;
+use lines::Sink;
 
-// A call's line, if it was refused. An answer's upper half is its refusal number, or 0.
-fn put_refusal(out: &mut [u8], at: usize, answer: u64) -> usize
-    ensures { Puts (refusal_text answer) at out.old out.new result }
+// A call's line, if it was refused. The answers are words, as `run` leaves them for C: the upper half is the refusal number, or 0.
+fn put_refusal(out: &mut Sink, answer: u64)
+    ensures { Adds (refusal_text answer) out.old out.new }
 {
     let number = answer / 4294967296;
-    if number == 0 {
-        return at;
+    if number != 0 {
+        out.put_refused(number);
     }
-    put_refused(out, at, number)
 }
 
 // A line for each refused call.
-pub(crate) fn put_refusals(out: &mut [u8], at: usize, answers: &[u64]) -> usize
-    ensures { Puts (flat_map refusal_text answers.now) at out.old out.new result }
+pub(crate) fn put_refusals(out: &mut Sink, answers: &[u64])
+    ensures { Adds (flat_map refusal_text answers.now) out.old out.new }
 {
-    let mut end = at;
-    let mut i = 0;
-    while i < answers.len() {
-        end = put_refusal(out, end, answers[i]);
-        i += 1;
+    for answer in answers {
+        put_refusal(out, *answer);
     }
-    end
 }

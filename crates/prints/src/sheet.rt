@@ -1,79 +1,69 @@
 // The course sheet of a log.
 ghost use Rattle.std.specs.Prelude.{◌≡◌, ◌≤◌, length, take};
 ghost use Rattle.lines.specs.Lines.{Puts, Within};
+ghost use Rattle.lines.specs.Adds.{Adds};
 ghost use Rattle.printing.specs.Sheet.{lag_end, reader_line, reader_lines, figures_text, sheet_text, sheet_print};
 
 use super::verdict::put_refusal;
-use judging::Verdict;
-use lags::{Figures, Lines};
-use lines::{put_line, put_number, put_text};
+use lags::{Figures, Line};
+use lines::Sink;
 
 // The end of a line: how many reads, and the sum of their lags.
-fn put_end(out: &mut [u8], at: usize, reads: usize, lags: usize) -> usize
-    ensures { Puts (lag_end reads lags) at out.old out.new result }
+fn put_end(out: &mut Sink, reads: usize, lags: usize)
+    ensures { Adds (lag_end reads lags) out.old out.new }
 {
-    let number = put_text(out, at, b" reads ");
-    let end = put_number(out, number, reads as u64);
-    put_line(out, end, b" lag ", lags as u64)
+    out.put_text(b" reads ");
+    out.put_number(reads as u64);
+    out.put_line(b" lag ", lags as u64);
 }
 
 // The line of reader i.
-fn put_reader(out: &mut [u8], at: usize, i: usize, reads: usize, lags: usize) -> usize
-    ensures { Puts (reader_line i reads lags) at out.old out.new result }
+fn put_reader(out: &mut Sink, i: usize, reads: usize, lags: usize)
+    ensures { Adds (reader_line i reads lags) out.old out.new }
 {
-    let number = put_text(out, at, b"reader ");
-    let end = put_number(out, number, i as u64);
-    put_end(out, end, reads, lags)
+    out.put_text(b"reader ");
+    out.put_number(i as u64);
+    put_end(out, reads, lags);
 }
 
 // The lines of the readers 1..n.
-fn put_readers(out: &mut [u8], at: usize, lines: Lines, n: usize) -> usize
+fn put_readers(out: &mut Sink, lines: [Line; 17], n: usize)
     requires { n ≤ 16 }
-    ensures { Puts (reader_lines lines n) at out.old out.new result }
+    ensures { Adds (reader_lines lines n) out.old out.new }
 {
-    let reads = lines.reads;
-    let lags = lines.lags;
-    let mut end = at;
-    let mut i = 0;
-    while i < n {
-        i += 1;
-        end = put_reader(out, end, i, reads[i], lags[i]);
+    for i in 0..n {
+        let line = lines[i + 1];
+        put_reader(out, i + 1, line.reads, line.lags);
     }
-    end
 }
 
 // The readers' lines, and the totals.
-fn put_figures(out: &mut [u8], at: usize, figures: Figures) -> usize
+fn put_figures(out: &mut Sink, figures: Figures)
     requires { figures.readers ≤ 16 }
-    ensures { Puts (figures_text figures) at out.old out.new result }
+    ensures { Adds (figures_text figures) out.old out.new }
 {
-    let lines = figures.lines;
-    let total = figures.total;
-    let end = put_readers(out, at, lines, figures.readers);
-    let all = put_text(out, end, b"all");
-    put_end(out, all, total.reads, total.lags)
+    put_readers(out, figures.lines, figures.readers);
+    out.put_text(b"all");
+    put_end(out, figures.total.reads, figures.total.lags);
 }
 
 // The sheet of a log's rows, or what the judge refuses them with.
-fn put_sheet(out: &mut [u8], at: usize, rows: &[u64]) -> usize
-    ensures { Puts (sheet_text rows.now) at out.old out.new result }
+fn put_sheet(out: &mut Sink, rows: &[u64])
+    ensures { Adds (sheet_text rows.now) out.old out.new }
 {
-    let sheet = sheets::rows::sheet(rows);
-    let verdict = sheet.verdict;
-    if let Verdict::Accepted(_) = verdict {
-        let figures = sheet.figures;
-        return put_figures(out, at, figures);
+    match sheets::rows::sheet(rows) {
+        Ok(figures) => put_figures(out, figures),
+        Err(fault) => put_refusal(out, fault),
     }
-    put_refusal(out, at, verdict)
 }
 
 // The same of a log as bytes.
-fn put_bytes(out: &mut [u8], bytes: &[u8]) -> usize
-    ensures { Puts (sheet_print bytes.now) 0 out.old out.new result }
+fn put_bytes(out: &mut Sink, bytes: &[u8])
+    ensures { Adds (sheet_print bytes.now) out.old out.new }
 {
     let mut rows = [0u64; 4096];
     let count = logbytes::rows_in(bytes, &mut rows);
-    put_sheet(out, 0, &rows[..count])
+    put_sheet(out, &rows[..count]);
 }
 
 // What the program `sheet` prints for a log as bytes, at the front. 2,048 bytes have room for every such print.
@@ -82,5 +72,7 @@ pub fn sheet_print(bytes: &[u8], out: &mut [u8]) -> usize
     ensures within { Within result out.new }
     ensures whole { 2048 ≤ length out.old → take result out.new ≡ sheet_print bytes.now }
 {
-    put_bytes(out, bytes)
+    let mut print = Sink { places: out, at: 0 };
+    put_bytes(&mut print, bytes);
+    print.at
 }

@@ -1,4 +1,5 @@
 -- What every cell of the table keeps, through any list of calls.
+use Rattle.std.specs.Prelude.{Ok}
 use Prim.Native.Nat.{ℕ, ◌+◌, ◌-◌, ◌*◌, ◌^◌, ◌≤◌, ◌<◌}
 use mathlib.Core.Path.{◌≡◌, refl, sym, ap, subst, ◌∙◌}
 use mathlib.Core.Logic.{◌≢◌, ◌⊎◌, inl, inr}
@@ -19,14 +20,15 @@ use Rattle.words.proofs.Laws.Index.{index_low, other_valid}
 use Rattle.common.specs.declared.Writer.{Writer}
 use Rattle.common.specs.declared.Reader.{Reader}
 use Rattle.common.specs.declared.State.{State}
-use Rattle.common.specs.declared.Answer.TheVariants.{Accepted}
+use Rattle.common.specs.declared.Done.TheVariants.{Accepted}
 use Rattle.common.specs.Rules.{WriteStep, ReadStep, state_ok, InRange}
 use Rattle.common.specs.State.{reader_at}
 use Rattle.common.specs.SetUp.{Outcome, set_up_of}
 use Rattle.common.specs.Head.{has_room}
 use Rattle.common.specs.Register.{begin_write_of, begin_read_of, step_writer, step_reader, step_of, retire_of, call_of, run_of, ran_from}
 use Rattle.common.specs.Book.{kept}
-use Rattle.common.specs.Calls.{Call, write, read, step, retire}
+use Rattle.common.specs.declared.calls.Call.{Call}
+use Rattle.common.specs.declared.calls.Call.TheVariants.{Write as write, Read as read, Step as step, Retire as retire}
 use Rattle.common.proofs.Asked.{as_processor_lem}
 use Rattle.common.proofs.Range.{test_range}
 use Rattle.common.proofs.Run.{from_set_up}
@@ -188,7 +190,7 @@ fresh_keeps n v x low = record {
     by i j w h (inr g) = ap (λ (c : Cell). c.announced) (front i j w ∙ fresh_reader_lem n i j v (omega arith) w)
 
 -- From every accepted set-up, behind every list of calls.
-pub cells_kept : (n v : ℕ) (t l : List ℕ) (cs : List Call) → v < 2 ^ 32 → (set_up_of ticket_rules n v 0 t l).answer ≡ Accepted
+pub cells_kept : (n v : ℕ) (t l : List ℕ) (cs : List Call) → v < 2 ^ 32 → (set_up_of ticket_rules n v 0 t l).answer ≡ Ok Accepted
     → CellsKept n (ran_from ticket_rules n v 0 t l cs).table
 unfolding run_of kept
 cells_kept n v t l cs low e =

@@ -18,7 +18,7 @@ use Rattle.words.proofs.Laws.Index.{index_low}
 use Rattle.common.specs.declared.State.{State}
 use Rattle.common.specs.State.{reader_at}
 use Rattle.common.specs.Book.{open_with, is_open, moves_write, moves_read, told}
-use Rattle.common.specs.Calls.{step}
+use Rattle.common.specs.declared.calls.Call.TheVariants.{Step as step}
 use Rattle.common.specs.Moves.{Moves}
 use Rattle.common.specs.Register.{call_of}
 use Rattle.common.proofs.Keep.{Good}

@@ -134,9 +134,6 @@ ones_or s (suc t) =
     let h : max (s % 2) (2 ^ suc t % 2) < 2 = omega arith in
     rw (or_step, half_pow, ones_cons, ones_step s) (omega (arith, ones_or (s / 2) t, even t))
 
-pub one_shifted : (t : ℕ) → t < 63 → 1 * 2 ^ t % 2 ^ 64 ≡ 2 ^ t
-one_shifted t h = shl_exact 1 t 64 (omega arith) (omega arith) ∙ one-mul (2 ^ t)
-
 pub two_shifted : (t : ℕ) → t < 63 → 2 * 2 ^ t % 2 ^ 64 ≡ 2 ^ suc t
 two_shifted t h = shl_exact 2 t 64 (omega arith) (omega arith) ∙ rw pow-suc (omega arith)
 

@@ -1,4 +1,5 @@
 -- Demand 3: from every accepted set-up, for every list of calls.
+use Rattle.std.specs.Prelude.{Ok}
 use Prim.Native.Nat.{ℕ, ◌+◌, ◌*◌, ◌^◌, ◌<◌}
 use mathlib.Core.Path.{◌≡◌, sym, subst}
 use mathlib.Core.List.{List}
@@ -7,8 +8,10 @@ use lib.ListN.{length}
 use Rattle.words.specs.declared.cell.Cell.{Cell}
 use Rattle.words.specs.Choice.{pick}
 use Rattle.words.specs.Index.{index, Pair}
-use Rattle.common.specs.declared.Answer.TheVariants.{Accepted}
-use Rattle.common.specs.Calls.{Call, step, LowCalls}
+use Rattle.common.specs.declared.Done.TheVariants.{Accepted}
+use Rattle.common.specs.Calls.{LowCalls}
+use Rattle.common.specs.declared.calls.Call.{Call}
+use Rattle.common.specs.declared.calls.Call.TheVariants.{Step as step}
 use Rattle.common.specs.SetUp.{set_up_of}
 use Rattle.common.specs.Register.{Ran, ran_from}
 use Rattle.common.specs.Book.{open_with}
@@ -25,7 +28,7 @@ use Rattle.protocol.proofs.Simulates.{simulates}
 use Rattle.protocol.proofs.Counts.{write_moves, read_moves, first_ticket}
 use Rattle.protocol.proofs.Atomic.Runs.{model_swept}
 
-module _ (n v : ℕ) (t l : List ℕ) (cs : List Call) (e : (set_up_of ticket_rules n v 0 t l).answer ≡ Accepted) where
+module _ (n v : ℕ) (t l : List ℕ) (cs : List Call) (e : (set_up_of ticket_rules n v 0 t l).answer ≡ Ok Accepted) where
   abbrev r : Ran
   r = ran_from ticket_rules n v 0 t l cs
 

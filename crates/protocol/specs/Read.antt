@@ -17,57 +17,20 @@ stamp_in w = (unpack_cell w).stamp
 
 -- a word more moved by the read
 abbrev pub moved_on : Reader → Reader
-moved_on r = record {
-  retired = r.retired;
-  active = true;
-  second = r.second;
-  moved = r.moved + 1;
-  stamp = r.stamp;
-  look = r.look;
-  agree = r.agree;
-  found = r.found;
-  result = r.result;
-}
+moved_on r = record r { active = true; moved = r.moved + 1 }
 
 -- "read the writer's cell (first look)"
 abbrev pub looks_first : Reader → ℕ → Reader
-looks_first r w = record {
-  retired = r.retired;
-  active = r.active;
-  second = r.second;
-  moved = r.moved;
-  stamp = r.stamp;
-  look = w;
-  agree = true;
-  found = false;
-  result = r.result;
-}
+looks_first r w = record r { look = w; agree = true; found = false }
 
 -- "read the writer's cell (second look)"
 abbrev pub looks_again : Reader → ℕ → Reader
-looks_again r w = record {
-  retired = r.retired;
-  active = r.active;
-  second = r.second;
-  moved = r.moved;
-  stamp = r.stamp;
-  look = r.look;
-  agree = same (stamp_in r.look) (stamp_in w);
-  found = r.found;
-  result = r.result;
-}
+looks_again r w = record r { agree = same (stamp_in r.look) (stamp_in w) }
 
 -- "read the other readers' cells to i": of those "whose prev equals the third look's cur" the first is kept. It is sought by the
 -- first look's cur, and used only if the looks are equal.
 abbrev pub looks_at_other : Reader → ℕ → Reader
-looks_at_other r w = record {
-  retired = r.retired;
-  active = r.active;
-  second = r.second;
-  moved = r.moved;
-  stamp = r.stamp;
-  look = r.look;
-  agree = r.agree;
+looks_at_other r w = record r {
   found = r.found || eqb (stamp_in w).prev (stamp_in r.look).cur;
   result = pick r.found r.result (pick (eqb (stamp_in w).prev (stamp_in r.look).cur) w r.result);
 }
@@ -78,31 +41,14 @@ looks_at_other r w = record {
 abbrev pub looks_third : Reader → ℕ → Reader
 looks_third r w =
     let equal = r.agree && same (stamp_in r.look) (stamp_in w) in
-    record {
-      retired = r.retired;
-      active = r.active;
+    record r {
       second = r.second || not equal;
-      moved = r.moved;
-      stamp = r.stamp;
-      look = r.look;
-      agree = r.agree;
-      found = r.found;
       result = pick equal (pick r.found r.result w) (pack_cell (plain (value_in r.look) none));
     }
 
 -- "The read ends there": the result's stamp is the reader's own
 abbrev pub read_ends : Reader → Reader
-read_ends r = record {
-  retired = r.retired;
-  active = false;
-  second = r.second;
-  moved = r.moved;
-  stamp = stamp_in r.result;
-  look = r.look;
-  agree = r.agree;
-  found = r.found;
-  result = r.result;
-}
+read_ends r = record r { active = false; stamp = stamp_in r.result }
 
 -- "store that stamp as announced in the own cell to the writer, beside the reader's own stamp as the state has it"
 abbrev pub announcing : Stamp → ℕ → Cell

@@ -4,7 +4,8 @@ use Rattle.std.specs.Prelude.{ℕ, ◌+◌, ◌*◌, ◌≤◌, ◌≡◌, true,
 use Rattle.words.specs.declared.cell.Cell.{Cell}
 use Rattle.words.specs.Choice.{pick}
 use Rattle.words.specs.Index.{index, Pair}
-use Rattle.common.specs.Calls.{Call, step}
+use Rattle.common.specs.declared.calls.Call.{Call}
+use Rattle.common.specs.declared.calls.Call.TheVariants.{Step as step}
 use Rattle.common.specs.Moves.{Moves}
 use Rattle.common.specs.Effects.{Stand}
 use Rattle.common.specs.Register.{ran_from}

@@ -10,15 +10,7 @@ use Rattle.protocol.specs.State.{excluded_by}
 
 -- "Sub-steps 1..n read the readers' cells to the writer, readers 1..n."
 abbrev pub writer_reads : ℕ → Writer → List ℕ → Writer
-writer_reads n w t = record {
-  active = true;
-  moved = w.moved + 1;
-  value = w.value;
-  excluded = with_cell w.excluded (view n t (w.moved + 1) 0);
-  ticket = w.ticket;
-  stamp = w.stamp;
-  count = w.count;
-}
+writer_reads n w t = record w { active = true; moved = w.moved + 1; excluded = with_cell w.excluded (view n t (w.moved + 1) 0) }
 
 -- "The new ticket, taken at sub-step n+1 before its store", walks on from the writer's cur.
 unfoldable pub ticket_of : ℕ → Writer → ℕ
@@ -29,26 +21,10 @@ abbrev pub new_stamp : ℕ → Writer → Stamp
 new_stamp n w = record { cur = ticket_of n w; prev = w.stamp.cur }
 
 abbrev pub writer_stores : ℕ → Writer → Writer
-writer_stores n w = record {
-  active = true;
-  moved = w.moved + 1;
-  value = w.value;
-  excluded = w.excluded;
-  ticket = ticket_of n w;
-  stamp = w.stamp;
-  count = w.count;
-}
+writer_stores n w = record w { active = true; moved = w.moved + 1; ticket = ticket_of n w }
 
 abbrev pub writer_ends : ℕ → Writer → Writer
-writer_ends n w = record {
-  active = false;
-  moved = w.moved + 1;
-  value = w.value;
-  excluded = w.excluded;
-  ticket = ticket_of n w;
-  stamp = new_stamp n w;
-  count = w.count;
-}
+writer_ends n w = record w { active = false; moved = w.moved + 1; ticket = ticket_of n w; stamp = new_stamp n w }
 
 -- "Sub-steps n+1..2n store v with the new stamp to readers 1..n."
 unfoldable pub write_step : ℕ → Writer → List ℕ → WriteStep

@@ -2,28 +2,20 @@
 ghost use Rattle.std.specs.Prelude.{◌≡◌, ◌≤◌};
 ghost use Rattle.common.specs.State.{open_readers, open_in};
 ghost use Rattle.common.specs.Rules.{readers_ok, state_ok};
-ghost use Rattle.kinds.specs.Rules.{rules_of};
 
 use common::State;
 use common::limits::{count_one, head_ok};
-use kinds::{cells_of, reader_ok, writer_ok};
+use kinds::Protocol;
 use reader::as_counted;
 
-fn readers_ok(s: State) -> bool
+fn readers_ok<P: Protocol>(s: State) -> bool
     requires { s.head.n ≤ 16 }
-    ensures { result ≡ readers_ok (rules_of s.head.counted) s }
+    ensures { result ≡ readers_ok P.rules s }
 {
-    let counted = s.head.counted;
-    let n = s.head.n;
-    let mut ok = true;
-    let mut i: usize = 0;
-    while i < n as usize {
-        let r = as_counted(s.readers[i]);
-        let one = reader_ok(counted, r, n as u8);
-        ok = ok & one;
-        i += 1;
-    }
-    ok
+    let n = s.head.n as u8;
+    s.readers[..n as usize]
+        .iter()
+        .all(|r| P::reader_ok(as_counted(*r), n))
 }
 
 // The readers whose open read counts.
@@ -31,15 +23,10 @@ fn open_readers(s: State) -> usize
     requires { s.head.n ≤ 16 }
     ensures { result ≡ open_readers s }
 {
-    let n = s.head.n;
-    let mut m: usize = 0;
-    let mut i: usize = 0;
-    while i < n as usize {
-        let r = as_counted(s.readers[i]);
-        m = m + count_one(r.active);
-        i += 1;
-    }
-    m
+    s.readers[..s.head.n as usize]
+        .iter()
+        .filter(|r| as_counted(**r).active)
+        .count()
 }
 
 // The open operations.
@@ -47,21 +34,18 @@ fn open_in(s: State) -> usize
     requires { s.head.n ≤ 16 }
     ensures { result ≡ open_in s }
 {
-    let readers = open_readers(s);
-    count_one(s.writer.active) + readers
+    count_one(s.writer.active) + open_readers(s)
 }
 
 // Whether the state is in range, with a table of so many cells and a log of so many rows.
-pub fn state_ok(s: State, cells: usize, log: usize) -> bool
-    ensures { result ≡ state_ok (rules_of s.head.counted) s cells log }
+pub fn state_ok<P: Protocol>(s: State, cells: usize, log: usize) -> bool
+    ensures { result ≡ state_ok P.rules s cells log }
 {
     let h = s.head;
-    if h.n <= 16 {
-        let need = cells_of(h.counted, h.n);
-        let head = head_ok(need, h, open_in(s), cells, log);
-        let writer = writer_ok(h.counted, s.writer, h.n as u8);
-        let readers = readers_ok(s);
-        return head & (writer & readers);
+    if 16 < h.n {
+        return false;
     }
-    false
+    head_ok(P::cells(h.n), h, open_in(s), cells, log)
+        && P::writer_ok(s.writer, h.n as u8)
+        && readers_ok::<P>(s)
 }

@@ -1,4 +1,5 @@
-// A fresh reader, one that begins a read, one that is retired, and question 4 of one reader.
+// A fresh reader, one that begins a read, one that is retired, and question 4 of one reader. They are functions, since the definitions
+// of their contracts stand in protocol, above the type's crate.
 #![tactic(auto)]
 
 ghost use Rattle.std.specs.Prelude.{◌≡◌};
@@ -7,18 +8,18 @@ ghost use Rattle.common.specs.SetUp.{fresh_reader};
 ghost use Rattle.protocol.specs.State.{span_ok, open_read_ok, reader_ok};
 
 use common::Reader;
+use words::stamp::{in_range, no_stamp};
 
 // The reader of a fresh register of either kind: it has no stamp of its own yet.
 pub fn fresh_reader() -> Reader
     ensures { result ≡ fresh_reader }
 {
-    let none = words::stamp::no_stamp();
     Reader {
         retired: false,
         active: false,
         second: false,
         moved: 0,
-        stamp: none,
+        stamp: no_stamp(),
         look: 0,
         agree: false,
         found: false,
@@ -30,32 +31,31 @@ pub fn fresh_reader() -> Reader
 pub fn open_reader(r: Reader) -> Reader
     ensures { result ≡ reader_begins r }
 {
-    let mut next = r;
-    next.active = true;
-    next.second = false;
-    next.moved = 0;
-    next.result = 0;
-    next
+    let nothing_met = 0;
+    Reader {
+        active: true,
+        second: false,
+        moved: 0,
+        result: nothing_met,
+        ..r
+    }
 }
 
 // A reader of either kind is retired.
 pub fn retire_reader(r: Reader) -> Reader
     ensures { result ≡ retires r }
 {
-    let mut next = r;
-    next.retired = true;
-    next
+    Reader { retired: true, ..r }
 }
 
 // A reader of either kind as questions 4 and 7 see it: the read of one that is retired counts as open no longer.
 pub fn as_counted(r: Reader) -> Reader
     ensures { result ≡ as_counted r }
 {
-    let mut next = r;
-    if r.retired {
-        next.active = false;
+    Reader {
+        active: !r.retired && r.active,
+        ..r
     }
-    next
 }
 
 // The words moved by an open read.
@@ -65,25 +65,22 @@ fn span_ok(second: bool, moved: u8, n: u8) -> bool
     let k = moved as u32;
     let m = n as u32;
     if second {
-        return (m + 3 <= k) & (k <= 3 * m + 5);
+        m + 3 <= k && k <= 3 * m + 5
+    } else {
+        k <= 2 * m + 2
     }
-    k <= 2 * m + 2
 }
 
 fn open_read_ok(r: Reader, n: u8) -> bool
     ensures { result ≡ open_read_ok n r }
 {
-    if r.active {
-        return span_ok(r.second, r.moved, n);
-    }
-    true
+    !r.active || span_ok(r.second, r.moved, n)
 }
 
 // Whether a reader is in range, of n.
+#[tactic(auto, unfolding(protocol::specs::State::reader_ok))]
 pub fn reader_ok(r: Reader, n: u8) -> bool
     ensures { result ≡ reader_ok n r }
 {
-    let stamp = words::stamp::in_range(r.stamp);
-    let open = open_read_ok(r, n);
-    stamp & open
+    in_range(r.stamp) && open_read_ok(r, n)
 }

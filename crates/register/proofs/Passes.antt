@@ -5,7 +5,7 @@ use mathlib.Core.Bool.{Bool, true, false}
 use mathlib.Core.List.{List}
 use lib.ListN.{length}
 use Rattle.common.specs.declared.State.{State}
-use Rattle.common.specs.Calls.{Call}
+use Rattle.common.specs.declared.calls.Call.{Call}
 use Rattle.common.specs.Effects.{Passes}
 use Rattle.common.specs.Rules.{state_ok}
 use Rattle.common.specs.Register.{call_of}

@@ -1,40 +1,111 @@
-// Begins, sub-steps and retirements, of either register.
-ghost use Rattle.std.specs.Prelude.{◌≡◌, true, false, ◌-◌, ◌≤◌, length};
-ghost use Rattle.words.specs.Counting.{one};
+// Begins, sub-steps and retirements, of either register. The state goes by value and comes back by value, and the table and the log are lent
+// beside it, as C lends them: of a struct behind a reference two fields can not both be lent to be written.
+ghost use Rattle.std.specs.Prelude.{◌≡◌, true, false, ◌-◌, ◌<◌, ◌≤◌, length, Ok};
 ghost use Rattle.common.specs.Answers.{reply};
-ghost use Rattle.common.specs.State.{reader_at, is_retired, with_retired};
+ghost use Rattle.common.specs.Head.{began, ended};
+ghost use Rattle.common.specs.State.{reader_at, is_retired, with_reader};
 ghost use Rattle.common.specs.Rules.{InRange};
-ghost use Rattle.common.specs.Register.{begin_write_of, open_read, begin_read_of, step_writer, step_reader, step_open, step_of, retire_of};
+ghost use Rattle.common.specs.Register.{begin_write_of, begin_read_of, step_writer, step_reader, step_of, retire_of};
 ghost use Rattle.kinds.specs.Rules.{rules_of};
-ghost use Rattle.questions.specs.Asked.{Passed};
-ghost use Rattle.register.specs.Contract.{outcome};
+ghost use Rattle.register.specs.Contract.{outcome, called_of};
 
 use super::rows::add_row;
 use common::limits::{count_one, has_room};
-use common::{Answer, Refusal, State};
-use kinds::may_write;
+use common::{Done, Head, Reader, Refusal, State};
+use kinds::{Counting, Protocol, Tickets};
 use looks::value_in;
-use questions::asked::{Asked, ask};
+use questions::asked::ask;
 use questions::range::state_ok;
 use reader::{open_reader, retire_reader};
-use steps::{read_step, write_step};
+use steps::Steps;
 use writer::state::open_writer;
 
-// What a call gives: its answer, and the state to hand to the next one.
-#[derive(Clone, Copy)]
+// What a call gives: its answer, and the state to hand to the next one: state goes by value and comes back by value, refused or not.
+#[derive(Clone, Copy, Debug, PartialEq, Eq)]
 pub struct Called {
-    pub answer: Answer,
+    pub answer: Result<Done, Refusal>,
     pub state: State,
 }
 
-fn refuse(s: State, why: Refusal) -> Called
-    ensures { (result.answer ≡ Answer.Refused why) × (result.state ≡ s) }
-{
-    let answer = Answer::Refused(why);
-    Called {
-        answer: answer,
-        state: s,
+impl Called {
+    // What a call on the state s gives, by what comes of it: what was done and the state then, or a refusal, behind which it is s.
+    pub(crate) fn of(s: State, made: Result<(Done, State), Refusal>) -> Called
+        ensures { result ≡ called_of s made }
+    {
+        match made {
+            Ok((done, state)) => Called {
+                answer: Ok(done),
+                state,
+            },
+            Err(why) => Called {
+                answer: Err(why),
+                state: s,
+            },
+        }
     }
+}
+
+// The head behind a begin, and its row.
+fn began(h: Head) -> Head
+    requires { (h.used ≤ 4096) × (h.opens ≤ 17) }
+    ensures { result ≡ began h }
+{
+    Head {
+        opens: h.opens + 1,
+        used: h.used + 1,
+        ..h
+    }
+}
+
+// The head behind an end, and its row.
+fn ended(h: Head) -> Head
+    requires { (h.used ≤ 4096) × (1 ≤ h.opens) }
+    ensures { result ≡ ended h }
+{
+    Head {
+        opens: h.opens - 1,
+        used: h.used + 1,
+        ..h
+    }
+}
+
+// The state with another reader i + 1, and another head.
+fn with_reader(s: State, i: usize, r: Reader, head: Head) -> State
+    requires { i < 16 }
+    ensures { result ≡ with_reader s i r head }
+{
+    let mut readers = s.readers;
+    readers[i] = r;
+    State { head, readers, ..s }
+}
+
+fn write_begun<P: Protocol>(
+    s: State,
+    table: &[u64],
+    log: &mut [u64],
+    value: u32,
+) -> Result<(Done, State), Refusal>
+    ensures { outcome (called_of s result) table.now log.new ≡ begin_write_of P.rules s table.now log.old value }
+{
+    if !state_ok::<P>(s, table.len(), log.len()) {
+        return Err(Refusal::Range);
+    }
+    if s.writer.active {
+        return Err(Refusal::Busy);
+    }
+    if !has_room(s.head) {
+        return Err(Refusal::Full);
+    }
+    if !P::may_write(s.writer) {
+        return Err(Refusal::Spent);
+    }
+    add_row(log, s.head.used, 1, 0, value);
+    let state = State {
+        head: began(s.head),
+        writer: open_writer(s.writer, value),
+        ..s
+    };
+    Ok((Done::Accepted, state))
 }
 
 // Begin a write of a value.
@@ -42,62 +113,33 @@ pub fn begin_write(s: State, table: &mut [u64], log: &mut [u64], value: u32) -> 
     ensures { (outcome result table.new log.new ≡ begin_write_of (rules_of s.head.counted) s table.old log.old value)
         × (reply result.answer ≡ reply (begin_write_of (rules_of s.head.counted) s table.old log.old value).answer) }
 {
-    if state_ok(s, table.len(), log.len()) {
-        let w = s.writer;
-        if w.active {
-            return refuse(s, Refusal::Busy);
-        }
-        let h = s.head;
-        if has_room(h) {
-            if may_write(h.counted, w) {
-                let used = h.used;
-                add_row(log, used, 1, 0, value);
-                let next = open_writer(w, value);
-                let mut state = s;
-                let more = used + 1;
-                state.head.used = more;
-                let opens = h.opens + 1;
-                state.head.opens = opens;
-                state.writer = next;
-                return Called {
-                    answer: Answer::Accepted,
-                    state: state,
-                };
-            }
-            return refuse(s, Refusal::Spent);
-        }
-        return refuse(s, Refusal::Full);
+    if s.head.counted {
+        Called::of(s, write_begun::<Counting>(s, table, log, value))
+    } else {
+        Called::of(s, write_begun::<Tickets>(s, table, log, value))
     }
-    refuse(s, Refusal::Range)
 }
 
-// Begin a read by reader p, as far as questions 6 and 7 let it.
-fn open_read(s: State, table: &mut [u64], log: &mut [u64], p: u32) -> Called
-    requires { Passed (rules_of s.head.counted) s (length table.old) (length log.old) 1 p }
-    ensures { outcome result table.new log.new ≡ open_read s table.old log.old p }
+fn read_begun<P: Protocol>(
+    s: State,
+    table: &[u64],
+    log: &mut [u64],
+    p: u32,
+) -> Result<(Done, State), Refusal>
+    ensures { outcome (called_of s result) table.now log.new ≡ begin_read_of P.rules s table.now log.old p }
 {
-    let h = s.head;
+    ask::<P>(s, table.len(), log.len(), 1, p)?;
     let i = p as usize - 1;
     let r = s.readers[i];
     if r.active {
-        return refuse(s, Refusal::Busy);
+        return Err(Refusal::Busy);
     }
-    if has_room(h) {
-        let used = h.used;
-        add_row(log, used, 3, p as u8, 0);
-        let next = open_reader(r);
-        let mut state = s;
-        let more = used + 1;
-        state.head.used = more;
-        let opens = h.opens + 1;
-        state.head.opens = opens;
-        state.readers[i] = next;
-        return Called {
-            answer: Answer::Accepted,
-            state: state,
-        };
+    if !has_room(s.head) {
+        return Err(Refusal::Full);
     }
-    refuse(s, Refusal::Full)
+    add_row(log, s.head.used, 3, p as u8, 0);
+    let state = with_reader(s, i, open_reader(r), began(s.head));
+    Ok((Done::Accepted, state))
 }
 
 // Begin a read by reader p.
@@ -105,90 +147,63 @@ pub fn begin_read(s: State, table: &mut [u64], log: &mut [u64], p: u32) -> Calle
     ensures { (outcome result table.new log.new ≡ begin_read_of (rules_of s.head.counted) s table.old log.old p)
         × (reply result.answer ≡ reply (begin_read_of (rules_of s.head.counted) s table.old log.old p).answer) }
 {
-    let answer = ask(s, table.len(), log.len(), 1, p);
-    match answer {
-        Asked::Yes => open_read(s, table, log, p),
-        Asked::No(why) => refuse(s, why),
+    if s.head.counted {
+        Called::of(s, read_begun::<Counting>(s, table, log, p))
+    } else {
+        Called::of(s, read_begun::<Tickets>(s, table, log, p))
     }
 }
 
 // A sub-step of the open write.
-fn step_writer(s: State, table: &mut [u64], log: &mut [u64]) -> Called
-    requires { InRange (rules_of s.head.counted) s (length table.old) (length log.old) × (s.writer.active ≡ true) }
-    ensures { outcome result table.new log.new ≡ step_writer (rules_of s.head.counted) s table.old log.old }
+fn step_writer<P: Steps>(s: State, table: &mut [u64], log: &mut [u64]) -> (Done, State)
+    requires { InRange P.rules s (length table.old) (length log.old) × (s.writer.active ≡ true) }
+    ensures { outcome (called_of s (Ok result)) table.new log.new ≡ step_writer P.rules s table.old log.old }
 {
-    let h = s.head;
-    let w = s.writer;
-    let next = write_step(h.counted, w, h.n, table);
-    let answer = Answer::Moved(w.moved + 1);
-    let mut state = s;
-    state.writer = next;
-    if next.active {
-        return Called {
-            answer: answer,
-            state: state,
-        };
+    let done = Done::Moved(s.writer.moved + 1);
+    let writer = P::write_step(s.writer, s.head.n, table);
+    if writer.active {
+        return (done, State { writer, ..s });
     }
-    let used = h.used;
-    add_row(log, used, 2, 0, 0);
-    let more = used + 1;
-    state.head.used = more;
-    let opens = h.opens - 1;
-    state.head.opens = opens;
-    Called {
-        answer: answer,
-        state: state,
-    }
+    add_row(log, s.head.used, 2, 0, 0);
+    let head = ended(s.head);
+    (done, State { head, writer, ..s })
 }
 
 // A sub-step of reader p's open read.
-fn step_reader(s: State, table: &mut [u64], log: &mut [u64], p: u32) -> Called
-    requires { InRange (rules_of s.head.counted) s (length table.old) (length log.old) × (1 ≤ p) × (p ≤ s.head.n) × (is_retired s p ≡ false) × ((reader_at s (p - 1)).active ≡ true) }
-    ensures { outcome result table.new log.new ≡ step_reader (rules_of s.head.counted) s table.old log.old p }
+fn step_reader<P: Steps>(s: State, table: &mut [u64], log: &mut [u64], p: u32) -> (Done, State)
+    requires { InRange P.rules s (length table.old) (length log.old) × (1 ≤ p) × (p ≤ s.head.n) × (is_retired s p ≡ false) × ((reader_at s (p - 1)).active ≡ true) }
+    ensures { outcome (called_of s (Ok result)) table.new log.new ≡ step_reader P.rules s table.old log.old p }
 {
-    let h = s.head;
     let i = p as usize - 1;
-    let r = s.readers[i];
-    let next = read_step(h.counted, r, h.n, p, table);
-    let answer = Answer::Moved(r.moved + 1);
-    let mut state = s;
-    state.readers[i] = next;
+    let done = Done::Moved(s.readers[i].moved + 1);
+    let next = P::read_step(s.readers[i], s.head.n, p, table);
     if next.active {
-        return Called {
-            answer: answer,
-            state: state,
-        };
+        return (done, with_reader(s, i, next, s.head));
     }
-    let used = h.used;
-    add_row(log, used, 4, p as u8, value_in(next.result));
-    let more = used + 1;
-    state.head.used = more;
-    let opens = h.opens - 1;
-    state.head.opens = opens;
-    Called {
-        answer: answer,
-        state: state,
-    }
+    add_row(log, s.head.used, 4, p as u8, value_in(next.result));
+    (done, with_reader(s, i, next, ended(s.head)))
 }
 
 // A sub-step of processor p, if it has an open operation (8).
-fn step_open(s: State, table: &mut [u64], log: &mut [u64], p: u32) -> Called
-    requires { Passed (rules_of s.head.counted) s (length table.old) (length log.old) 0 p }
-    ensures { outcome result table.new log.new ≡ step_open (rules_of s.head.counted) s table.old log.old p }
+fn stepped<P: Steps>(
+    s: State,
+    table: &mut [u64],
+    log: &mut [u64],
+    p: u32,
+) -> Result<(Done, State), Refusal>
+    ensures { outcome (called_of s result) table.new log.new ≡ step_of P.rules s table.old log.old p }
 {
+    ask::<P>(s, table.len(), log.len(), 0, p)?;
     if p == 0 {
-        let w = s.writer;
-        if w.active {
-            return step_writer(s, table, log);
+        if !s.writer.active {
+            return Err(Refusal::Idle);
         }
-        return refuse(s, Refusal::Idle);
+        return Ok(step_writer::<P>(s, table, log));
     }
-    let i = p as usize - 1;
-    let r = s.readers[i];
-    if r.active {
-        return step_reader(s, table, log, p);
+    if !s.readers[p as usize - 1].active {
+        return Err(Refusal::Idle);
     }
-    refuse(s, Refusal::Idle)
+    Ok(step_reader::<P>(s, table, log, p))
 }
 
 // A sub-step of processor p.
@@ -196,30 +211,28 @@ pub fn step(s: State, table: &mut [u64], log: &mut [u64], p: u32) -> Called
     ensures { (outcome result table.new log.new ≡ step_of (rules_of s.head.counted) s table.old log.old p)
         × (reply result.answer ≡ reply (step_of (rules_of s.head.counted) s table.old log.old p).answer) }
 {
-    let answer = ask(s, table.len(), log.len(), 0, p);
-    match answer {
-        Asked::Yes => step_open(s, table, log, p),
-        Asked::No(why) => refuse(s, why),
+    if s.head.counted {
+        Called::of(s, stepped::<Counting>(s, table, log, p))
+    } else {
+        Called::of(s, stepped::<Tickets>(s, table, log, p))
     }
 }
 
 // Reader p is in the set of the retired, and its operation counts as open no longer.
-fn withdraw(s: State, p: u32) -> Called
-    requires { (1 ≤ p) × (p ≤ 16) × (one (reader_at s (p - 1)).active ≤ s.head.opens) }
-    ensures { (result.answer ≡ Answer.Accepted) × (result.state ≡ with_retired s p) }
+fn retired<P: Protocol>(
+    s: State,
+    table: &[u64],
+    log: &[u64],
+    p: u32,
+) -> Result<(Done, State), Refusal>
+    ensures { outcome (called_of s result) table.now log.now ≡ retire_of P.rules s table.now log.now p }
 {
+    ask::<P>(s, table.len(), log.len(), 1, p)?;
     let i = p as usize - 1;
     let r = s.readers[i];
-    let next = retire_reader(r);
-    let h = s.head;
-    let opens = h.opens - count_one(r.active) as u8;
-    let mut state = s;
-    state.head.opens = opens;
-    state.readers[i] = next;
-    Called {
-        answer: Answer::Accepted,
-        state: state,
-    }
+    let opens = s.head.opens - count_one(r.active) as u8;
+    let head = Head { opens, ..s.head };
+    Ok((Done::Accepted, with_reader(s, i, retire_reader(r), head)))
 }
 
 // Retire reader p, for good. The table and the log stay as they are: they are lent for question 4.
@@ -227,9 +240,9 @@ pub fn retire(s: State, table: &mut [u64], log: &mut [u64], p: u32) -> Called
     ensures { (outcome result table.new log.new ≡ retire_of (rules_of s.head.counted) s table.old log.old p)
         × (reply result.answer ≡ reply (retire_of (rules_of s.head.counted) s table.old log.old p).answer) }
 {
-    let answer = ask(s, table.len(), log.len(), 1, p);
-    match answer {
-        Asked::Yes => withdraw(s, p),
-        Asked::No(why) => refuse(s, why),
+    if s.head.counted {
+        Called::of(s, retired::<Counting>(s, table, log, p))
+    } else {
+        Called::of(s, retired::<Tickets>(s, table, log, p))
     }
 }

@@ -1,6 +1,6 @@
 -- Sessions of the counted register (document 02, card 3). The words that runs leave are the card's, or an outside model's.
 use Rattle.std.specs.Prelude.{List, [], ◌∷◌, ◌++◌}
-use Rattle.common.specs.Calls.{write, read, step}
+use Rattle.common.specs.declared.calls.Call.TheVariants.{Write as write, Read as read, Step as step}
 use Rattle.sessions.specs.Session.{Session, counting, counted_cell, denied, run}
 use Rattle.sessions.specs.Lent.{lent, paper, times}
 

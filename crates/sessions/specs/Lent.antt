@@ -1,6 +1,7 @@
 -- What a session lends, and calls that it repeats.
 use Rattle.std.specs.Prelude.{ℕ, zero, suc, List, [], ◌∷◌, ◌++◌, replicate}
-use Rattle.common.specs.Calls.{Call, step}
+use Rattle.common.specs.declared.calls.Call.{Call}
+use Rattle.common.specs.declared.calls.Call.TheVariants.{Step as step}
 
 -- a table of k cells and a log of k rows to lend, with leftover words
 abbrev pub lent : ℕ → List ℕ

@@ -1,6 +1,7 @@
 -- The number of open operations, of both registers (document 02, card 5). All is told by the card.
 use Rattle.std.specs.Prelude.{ℕ, List, [], ◌∷◌, ◌++◌}
-use Rattle.common.specs.Calls.{Call, write, read, step, retire}
+use Rattle.common.specs.declared.calls.Call.{Call}
+use Rattle.common.specs.declared.calls.Call.TheVariants.{Write as write, Read as read, Step as step, Retire as retire}
 use Rattle.sessions.specs.Session.{Session, Register, tickets, counting, opens, handed}
 use Rattle.sessions.specs.Lent.{times}
 

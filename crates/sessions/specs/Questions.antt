@@ -3,7 +3,7 @@
 use Rattle.std.specs.Prelude.{ℕ, false, List, [], ◌∷◌, ◌++◌}
 use Rattle.words.specs.Row.{pack_row}
 use Rattle.common.specs.declared.State.{State}
-use Rattle.common.specs.Calls.{write, read, step, retire}
+use Rattle.common.specs.declared.calls.Call.TheVariants.{Write as write, Read as read, Step as step, Retire as retire}
 use Rattle.common.specs.SetUp.{fresh_state, no_state}
 use Rattle.sessions.specs.Session.{Session, tickets, judged, denied, run, asked}
 use Rattle.sessions.specs.Lent.{lent, paper, many}

@@ -1,7 +1,8 @@
 -- Sessions of readers that are retired (document 02, card 1), of both registers. The words that runs leave are the card's, or an outside
 -- model's.
 use Rattle.std.specs.Prelude.{ℕ, List, [], ◌∷◌, ◌++◌}
-use Rattle.common.specs.Calls.{Call, write, read, step, retire}
+use Rattle.common.specs.declared.calls.Call.{Call}
+use Rattle.common.specs.declared.calls.Call.TheVariants.{Write as write, Read as read, Step as step, Retire as retire}
 use Rattle.sessions.specs.Session.{Session, tickets, counting, run}
 use Rattle.sessions.specs.Lent.{lent, paper, times, many}
 

@@ -1,7 +1,7 @@
 -- Sessions that tell rising readers from falling ones, the first cell from the last, and none from a stamp. The words that runs leave are an
 -- outside model's.
 use Rattle.std.specs.Prelude.{List, [], ◌∷◌, ◌++◌}
-use Rattle.common.specs.Calls.{write, read, step}
+use Rattle.common.specs.declared.calls.Call.TheVariants.{Write as write, Read as read, Step as step}
 use Rattle.sessions.specs.Session.{Session, tickets, run, found}
 use Rattle.sessions.specs.Lent.{lent, paper, times, many, sub_steps}
 

@@ -10,11 +10,10 @@ use Rattle.words.specs.Row.{pack_row, unpack_row}
 use Rattle.history.specs.History.{history_of}
 use Rattle.history.specs.Chosen.{chosen, reads_from, regular, uninverted}
 use Rattle.judging.specs.Answer.{answer_of, order_of, bytes_number}
-use Rattle.common.specs.declared.Answer.{Answer}
 use Rattle.common.specs.declared.Writer.{Writer}
 use Rattle.common.specs.declared.State.{State}
-use Rattle.common.specs.Answers.{Reply, reply}
-use Rattle.common.specs.Calls.{Call}
+use Rattle.common.specs.Answers.{Answer, Reply, reply}
+use Rattle.common.specs.declared.calls.Call.{Call}
 use Rattle.common.specs.Head.{head_with}
 use Rattle.common.specs.Rules.{Rules}
 use Rattle.common.specs.SetUp.{set_up_of}

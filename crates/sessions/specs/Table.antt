@@ -1,7 +1,7 @@
 -- The sessions of document 01, in its order, and a few more. The words that runs leave are document 01's, or an outside model's.
 use Rattle.std.specs.Prelude.{ℕ, true, false, List, [], ◌∷◌, ◌++◌}
 use Rattle.words.specs.Stamp.{none}
-use Rattle.common.specs.Calls.{write, read, step}
+use Rattle.common.specs.declared.calls.Call.TheVariants.{Write as write, Read as read, Step as step}
 use Rattle.sessions.specs.Session.{Session, stamp, tickets, cell, row, judged, tried, denied, run}
 use Rattle.sessions.specs.Lent.{lent, paper, times}
 use Rattle.sessions.specs.Letters.{shows, announces, event, two, W, w, R, r, places}

@@ -1,7 +1,8 @@
 -- Sessions of tickets that walk (document 02, card 2). Tickets and cells are from its sentence, by hand, and an outside model's.
 use Rattle.std.specs.Prelude.{ℕ, List, [], ◌∷◌, ◌++◌}
 use Rattle.words.specs.Stamp.{none}
-use Rattle.common.specs.Calls.{Call, write, read}
+use Rattle.common.specs.declared.calls.Call.{Call}
+use Rattle.common.specs.declared.calls.Call.TheVariants.{Write as write, Read as read}
 use Rattle.sessions.specs.Session.{Session, stamp, tickets, taken, run}
 use Rattle.sessions.specs.Lent.{lent, paper, times, many}
 

@@ -2,35 +2,31 @@
 // `no order` and a row, or `refused` and a number. The logs are its inputs: see the crate `inputs`.
 #![tactic(auto)]
 
-ghost use Rattle.std.specs.Prelude.{◌≡◌, length};
+ghost use Rattle.std.specs.Prelude.{refl};
+ghost use Rattle.inputs.proofs.Fits.{fits};
+ghost use Rattle.printing.specs.Sheet.{sheet_print};
+ghost use Rattle.printing.proofs.SheetShort.{sheet_short};
 
+use inputs::{LOG, Prints};
 use prints::sheet::sheet_print;
 use std::io;
 
-// Room for every sheet.
-fn sheet_bytes() -> [u8; 2048]
-    ensures { 2048 ≡ length result }
-{
-    [0; 2048]
-}
+struct Sheet;
 
-// The sheet of input k. Of an input that is longer than 4,096 rows one byte more is read.
-fn print_input(rt: &HostRuntime, k: usize) -> io::Result<()> {
-    let mut bytes = inputs::log_bytes();
-    let input = inputs::read(rt, k, &mut bytes);
-    if input.found {
-        let count = input.count;
-        let mut out = sheet_bytes();
-        let n = sheet_print(&bytes[..count], &mut out);
-        rt.write_all(&out[..n])?;
+impl Prints<LOG, 2048> for Sheet {
+    ghost said = { sheet_print };
+
+    fn print(bytes: &[u8], out: &mut [u8]) -> usize {
+        sheet_print(bytes, out)
     }
-    Ok(())
+
+    ghost short = { sheet_short };
+
+    ghost room_fits = { fits 32769 refl };
+
+    ghost size_fits = { fits 2048 refl };
 }
 
 fn main(rt: HostRuntime) -> io::Result<()> {
-    let end = inputs::end(&rt);
-    for k in 1..end {
-        print_input(&rt, k)?;
-    }
-    Ok(())
+    Sheet::print_each(&rt)
 }

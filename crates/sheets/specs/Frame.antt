@@ -7,7 +7,6 @@ use Rattle.judge.specs.Frame.{of_rows, KeepsLittleAmong}
 abbrev pub of_sheet : List Symbol
 of_sheet =
     "sheets::rows::sheet"
-    ∷ "sheets::rows::no_figures"
     ∷ "sheets::fill::figures"
     ∷ "sheets::fill::lines"
     ∷ "sheets::add::with_write"

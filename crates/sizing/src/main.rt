@@ -1,35 +1,31 @@
 // Sizing a drill: reads `n writes reads` and prints the figures of both registers, for each of its inputs: see the crate `inputs`.
 #![tactic(auto)]
 
-ghost use Rattle.std.specs.Prelude.{◌≡◌, length};
+ghost use Rattle.std.specs.Prelude.{refl};
+ghost use Rattle.inputs.proofs.Fits.{fits};
+ghost use Rattle.printing.specs.Sizing.{sizing_print};
+ghost use Rattle.printing.proofs.SizingShort.{sizing_short};
 
+use inputs::{Prints, TEXT};
 use sizes::print::sizing_print;
 use std::io;
 
-// Room for every print.
-fn print_bytes() -> [u8; 256]
-    ensures { 256 ≡ length result }
-{
-    [0; 256]
-}
+struct Sizing;
 
-// The print of input k. Of an input that is longer than 65,536 bytes one more is read.
-fn print_input(rt: &HostRuntime, k: usize) -> io::Result<()> {
-    let mut bytes = inputs::text_bytes();
-    let input = inputs::read(rt, k, &mut bytes);
-    if input.found {
-        let count = input.count;
-        let mut out = print_bytes();
-        let n = sizing_print(&bytes[..count], &mut out);
-        rt.write_all(&out[..n])?;
+impl Prints<TEXT, 256> for Sizing {
+    ghost said = { sizing_print };
+
+    fn print(bytes: &[u8], out: &mut [u8]) -> usize {
+        sizing_print(bytes, out)
     }
-    Ok(())
+
+    ghost short = { sizing_short };
+
+    ghost room_fits = { fits 65537 refl };
+
+    ghost size_fits = { fits 256 refl };
 }
 
 fn main(rt: HostRuntime) -> io::Result<()> {
-    let end = inputs::end(&rt);
-    for k in 1..end {
-        print_input(&rt, k)?;
-    }
-    Ok(())
+    Sizing::print_each(&rt)
 }

@@ -8,45 +8,45 @@ mod rounds; // a round: set-up, the calls, and the judge on the used rows
 
 ghost use Rattle.std.specs.Prelude.{◌≤◌};
 
-use fields::{NONE, number_in};
-use rounds::round;
+use fields::number_in;
+use rounds::{Kind, add_round};
 use std::env::{Env, FillError};
 use std::io;
-use sum::SEED;
+use sum::{Checksum, SEED};
 
-fn print_sum(rt: &impl Print, counted: bool, n: u32, sum: u64) -> io::Result<()> {
-    if counted {
-        print!(rt; "counted ")?;
+fn print_sum(rt: &impl Print, kind: Kind, n: u32, sum: Checksum) -> io::Result<()> {
+    let value = sum.value();
+    match kind {
+        Kind::Tickets => println!(rt; "n {n}: {value:016x}"),
+        Kind::Counted => println!(rt; "counted n {n}: {value:016x}"),
     }
-    println!(rt; "n {n}: {sum:016x}")
 }
 
 // The rounds of one register for n readers, and their line.
-fn soak(rt: &impl Print, counted: bool, n: u32, rounds: u64) -> io::Result<()>
+fn soak(rt: &impl Print, kind: Kind, n: u32, rounds: u64) -> io::Result<()>
     requires { n ≤ 16 }
 {
-    let mut sum = SEED;
+    let mut sum = Checksum::new();
     for k in 0..rounds {
-        sum = round(counted, n, SEED ^ (((n as u64) << 32) | k), sum);
+        add_round(&mut sum, kind, n, SEED ^ (((n as u64) << 32) | k));
     }
-    print_sum(rt, counted, n, sum)
+    print_sum(rt, kind, n, sum)
 }
 
 fn soak_all(rt: &impl Print, rounds: u64) -> io::Result<()> {
     for n in 1u32..17 {
-        soak(rt, false, n, rounds)?;
-        soak(rt, true, n, rounds)?;
+        soak(rt, Kind::Tickets, n, rounds)?;
+        soak(rt, Kind::Counted, n, rounds)?;
     }
     Ok(())
 }
 
 // As many rounds as a text says.
 fn soak_text(rt: &impl Print, text: &[u8]) -> io::Result<()> {
-    let rounds = number_in(text);
-    if rounds == NONE {
-        return println!(rt; "rounds: not a number");
+    match number_in(text) {
+        Some(rounds) => soak_all(rt, rounds.into()),
+        None => println!(rt; "rounds: not a number"),
     }
-    soak_all(rt, rounds)
 }
 
 fn main(rt: HostRuntime) -> io::Result<()> {

@@ -3,27 +3,15 @@ use Prim.Native.Nat.{ℕ, ◌+◌, ◌-◌, ◌≤◌, ◌<◌}
 use mathlib.Core.Path.{◌≡◌, sym}
 use mathlib.Core.Bool.{true, false}
 use mathlib.Core.List.{List}
-use native.Mathlib.Omega.{arith}
-use native.Mathlib.Nat.{mul-le-mul_left}
 use borrow.Author.Tests.{lt-ltb, le-ltb}
 use Rattle.words.specs.Index.{other}
 use Rattle.words.proofs.Laws.Index.{other_valid}
 use Rattle.common.specs.declared.Reader.{Reader}
 use Rattle.common.specs.declared.Writer.{Writer}
 use Rattle.counted.specs.Cell.{unpack_cell}
-use Rattle.counted.specs.Table.{row_start, in_row, Link, word_at, store}
+use Rattle.counted.specs.Table.{Link, word_at, store}
 use Rattle.counted.specs.Steps.{larger, read_on, read_step, write_step}
-use Rattle.counted.specs.Rules.{counted_rules}
-use Rattle.counted.proofs.Table.{index_low}
-use Rattle.steps.specs.Contract.{TableOk, CountedReadOk, write_stepped, read_stepped}
-
--- Places of the table.
-module _ (n i j cells : ℕ) (k : TableOk counted_rules n cells) (v : Link n i j) where
-  pub place_in : row_start n i + in_row i j < cells
-  place_in = omega (arith, index_low n i j v, k.cells_are)
-
-  pub place_small : row_start n i + in_row i j < 256
-  place_small = omega (arith, index_low n i j v, mul-le-mul_left n k.n_high, k.n_high)
+use Rattle.steps.specs.Contract.{CountedReadOk, write_stepped, read_stepped}
 
 -- Who has a cell to whom.
 module _ (n p : ℕ) (r : Reader) (k : CountedReadOk n p r) (m : ℕ) (h : m + 1 < n) where

@@ -1,14 +1,12 @@
 -- The definitions' cases, as the code takes them.
-use Prim.Native.Nat.{ℕ, ◌+◌, ◌-◌, ◌*◌, ◌≤◌, ◌<◌}
+use Prim.Native.Nat.{ℕ, ◌+◌, ◌-◌, ◌≤◌, ◌<◌}
 use mathlib.Core.Path.{◌≡◌, refl, ap}
 use mathlib.Core.Logic.{◌≢◌}
 use mathlib.Core.List.{List}
 use mathlib.Core.Bool.{Bool, true, false}
 use native.Mathlib.Omega.{arith}
-use native.Mathlib.Nat.{mul-le-mul_left}
 use borrow.Author.Tests.{lt-ltb, le-ltb, eq-eqb, ne_eqb}
-use Rattle.words.specs.Index.{row_start, in_row, index, Pair, other}
-use Rattle.words.proofs.Laws.Index.{index_low}
+use Rattle.words.specs.Index.{other}
 use Rattle.common.specs.declared.Reader.{Reader}
 use Rattle.protocol.specs.Table.{store, plain}
 use Rattle.protocol.specs.Read.{stamp_in, looks_first, moved_on, looks_again, looks_at_other, looks_third, read_ends, announcing, showing, word_at, attempt_step, result_step, since, read_step}
@@ -16,16 +14,6 @@ use Rattle.common.specs.declared.Writer.{Writer}
 use Rattle.protocol.specs.Write.{writer_reads, ticket_of, write_step}
 use Rattle.words.specs.Choice.{pick}
 use Rattle.steps.specs.Contract.{ReadOk, stored_writer, write_stepped, read_stepped}
-
--- Places of the table.
-module _ (n i j cells : ℕ) (h : n ≤ 16) (v : Pair n i j) (c : n * n + n ≤ cells) where
-  pub place_in : row_start n i + in_row i j < cells
-  unfolding index
-  place_in = omega (arith, index_low n i j v)
-
-  pub place_small : row_start n i + in_row i j < 272
-  unfolding index
-  place_small = omega (arith, index_low n i j v, mul-le-mul_left n h)
 
 -- The sub-steps of an attempt.
 module _ (n p l : ℕ) (r : Reader) (t : List ℕ) where

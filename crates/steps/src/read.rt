@@ -4,9 +4,10 @@ ghost use Rattle.protocol.specs.Rules.{ticket_rules};
 ghost use Rattle.protocol.specs.Read.{moved_on, attempt_step, result_step, since, read_step};
 ghost use Rattle.steps.specs.Contract.{TableOk, ReadOk, read_stepped};
 
-use super::cells::{store_cell, word_from};
+use super::cells::{store_word, word_from};
 use common::Reader;
 use common::others::other_reader;
+use kinds::Tickets;
 use looks::result::{announcement, ends, plain_cell, shown};
 use looks::{looks_again, looks_at_other, looks_first, looks_third, stamp_in};
 
@@ -15,10 +16,11 @@ fn count_word(r: Reader) -> Reader
     requires { r.moved < 200 }
     ensures { result ≡ moved_on r }
 {
-    let mut next = r;
-    next.active = true;
-    next.moved = r.moved + 1;
-    next
+    Reader {
+        active: true,
+        moved: r.moved + 1,
+        ..r
+    }
 }
 
 // Sub-step l, from 0, of an attempt.
@@ -28,25 +30,21 @@ fn attempt_step(r: Reader, n: u32, p: u32, l: u32, table: &mut [u64]) -> Reader
 {
     let next = count_word(r);
     if l == 0 {
-        let word = word_from(&table[..], n, 0, p);
-        return looks_first(next, word);
+        return looks_first(next, word_from::<Tickets>(table, n, 0, p));
     }
     if l == 1 {
         let c = announcement(r.stamp, r.look);
-        store_cell(table, n, p, 0, c);
+        store_word::<Tickets>(table, n, p, 0, u64::from(c));
         return next;
     }
     if l == 2 {
-        let word = word_from(&table[..], n, 0, p);
-        return looks_again(next, word);
+        return looks_again(next, word_from::<Tickets>(table, n, 0, p));
     }
     if l < n + 2 {
         let q = other_reader(p, (l - 3) as u8);
-        let word = word_from(&table[..], n, q, p);
-        return looks_at_other(next, word);
+        return looks_at_other(next, word_from::<Tickets>(table, n, q, p));
     }
-    let word = word_from(&table[..], n, 0, p);
-    looks_third(next, word)
+    looks_third(next, word_from::<Tickets>(table, n, 0, p))
 }
 
 // Store k, from 0, of the result.
@@ -55,15 +53,13 @@ fn result_step(r: Reader, n: u32, p: u32, k: u32, table: &mut [u64]) -> Reader
     ensures { read_stepped result table.new ≡ result_step n p k r table.old }
 {
     let next = count_word(r);
-    let word = r.result;
     if k + 1 < n {
         let q = other_reader(p, k as u8);
-        let c = shown(word);
-        store_cell(table, n, p, q, c);
+        store_word::<Tickets>(table, n, p, q, u64::from(shown(r.result)));
         return next;
     }
-    let c = plain_cell(0, stamp_in(word));
-    store_cell(table, n, p, 0, c);
+    let c = plain_cell(0, stamp_in(r.result));
+    store_word::<Tickets>(table, n, p, 0, u64::from(c));
     ends(next)
 }
 
@@ -73,10 +69,7 @@ fn words_since(r: Reader, n: u32, p: u32) -> u32
     ensures { result ≡ since n r }
 {
     let m = r.moved as u32;
-    if r.second {
-        return m - (n + 3);
-    }
-    m
+    if r.second { m - (n + 3) } else { m }
 }
 
 // A sub-step of reader p's open read.

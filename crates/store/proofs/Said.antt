@@ -15,12 +15,12 @@ use Rattle.storing.proofs.Matching.{matched→}
 use Rattle.storing.proofs.Formed.{formed_back}
 use Rattle.storing.proofs.Meaning.{store_says, restore_says}
 
-pub stored : {log b r b' r' : List ℕ} {k : ℕ} → Stored log b r b' r' k → Stored log b r b' r' k × StoreSays log b r b' r' k
-stored S = (S, store_says S)
+pub stored : {log b r b' r' : List ℕ} {k : ℕ} → Stored log b r b' r' k → record { leaves : Stored log b r b' r' k; meaning : StoreSays log b r b' r' k }
+stored S = record { leaves = S; meaning = store_says S }
 
 pub restored : {bytes rows o o' : List ℕ} {k : ℕ} → ((i : ℕ) → i < length bytes → get_or bytes i 0 < 256) → Restored bytes rows o o' k
-    → Restored bytes rows o o' k × RestoreSays bytes rows o o' k
-restored small R = (R, restore_says small R)
+    → record { leaves : Restored bytes rows o o' k; meaning : RestoreSays bytes rows o o' k }
+restored small R = record { leaves = R; meaning = restore_says small R }
 
 -- question 10, asked of the strips' rows
 pub asked_of_rows : (bytes rows : List ℕ) {v : Bool} → ((i : ℕ) → i < length bytes → get_or bytes i 0 < 256) → T (matched bytes rows) → v ≡ well_formed rows

@@ -3,7 +3,7 @@ ghost use Rattle.std.specs.Prelude.{◌≡◌, ◌≤◌, T, length};
 ghost use Rattle.judging.specs.Answer.{laid};
 ghost use Rattle.storing.specs.Strips.{log_of, matched};
 
-use super::count::{put_starts, wide};
+use super::count::put_starts;
 
 // Puts the log's rows: each byte takes the next row of the processor that it names.
 pub(crate) fn put_log(bytes: &[u8], rows: &[u64], log: &mut [u64])
@@ -13,12 +13,9 @@ pub(crate) fn put_log(bytes: &[u8], rows: &[u64], log: &mut [u64])
     let mut next = [0usize; 256];
     put_starts(bytes, &mut next);
     log[0] = rows[0];
-    let mut k = 1;
-    while k < rows.len() {
-        let p = wide(bytes[k - 1]);
-        let at = next[p];
-        log[k] = rows[at];
-        next[p] = at + 1;
-        k += 1;
+    for k in 1..rows.len() {
+        let p = usize::from(bytes[k - 1]);
+        log[k] = rows[next[p]];
+        next[p] += 1;
     }
 }

@@ -11,14 +11,7 @@ fn all_of(rows: &[u64], at: usize, c: usize, p: usize) -> bool
     requires { at + c ≤ length rows.now }
     ensures { AllOf rows.now at c p result }
 {
-    let mut i = 0;
-    while i < c {
-        if processor(rows[at + i]) != p {
-            return false;
-        }
-        i += 1;
-    }
-    true
+    rows[at..at + c].iter().all(|row| processor(*row) == p)
 }
 
 // Whether the rows after row 0 are as many of processor 0 as there are bytes 0, then as many of processor 1, and so on.
@@ -33,9 +26,10 @@ pub(crate) fn matching(bytes: &[u8], rows: &[u64]) -> bool
     }
     let mut at = 1;
     let mut p = 0;
+    // As a `for` with a `break` it would be no plainer.
     while at < rows.len() {
         let c = count(bytes, p);
-        if all_of(rows, at, c, p) {} else {
+        if !all_of(rows, at, c, p) {
             return false;
         }
         at += c;

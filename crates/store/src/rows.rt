@@ -8,62 +8,56 @@ use super::matching::matching;
 use super::out::{put_bytes, put_rows};
 use judge::formed::well_formed;
 use judge::rows::right_length;
-use storing::Stripped;
+use storing::Fault;
 
 // Stores a log in strips: its bytes and its rows.
-pub fn store(log: &[u64], bytes: &mut [u8], rows: &mut [u64]) -> Stripped
+pub fn store(log: &[u64], bytes: &mut [u8], rows: &mut [u64]) -> Result<(), Fault>
     ensures leaves { Stored log.now bytes.old rows.old bytes.new rows.new (number_of result) }
     ensures meaning { StoreSays log.now bytes.old rows.old bytes.new rows.new (number_of result) }
 {
-    if right_length(log.len()) {} else {
-        return Stripped::WrongLength;
+    if !right_length(log.len()) {
+        return Err(Fault::WrongLength);
     }
-    if well_formed(log) {} else {
-        return Stripped::Malformed;
+    if !well_formed(log) {
+        return Err(Fault::Malformed);
     }
-    if bytes.len() < log.len() - 1 {
-        return Stripped::NoRoom;
-    }
-    if rows.len() < log.len() {
-        return Stripped::NoRoom;
+    if bytes.len() < log.len() - 1 || rows.len() < log.len() {
+        return Err(Fault::NoRoom);
     }
     put_bytes(log, bytes);
     put_rows(log, rows);
-    Stripped::Done
+    Ok(())
 }
 
 // Puts the log back that the strips are of. Whether it is well formed is asked of the strips: question 10 looks at each processor's own rows only,
 // and those stand in the same order.
-pub fn restore(bytes: &[u8], rows: &[u64], log: &mut [u64]) -> Stripped
+pub fn restore(bytes: &[u8], rows: &[u64], log: &mut [u64]) -> Result<(), Fault>
     ensures leaves { Restored bytes.now rows.now log.old log.new (number_of result) }
     ensures meaning { RestoreSays bytes.now rows.now log.old log.new (number_of result) }
 {
-    if matching(bytes, rows) {} else {
-        return Stripped::Unmatched;
+    if !matching(bytes, rows) {
+        return Err(Fault::Unmatched);
     }
-    if right_length(rows.len()) {} else {
-        return Stripped::WrongLength;
+    if !right_length(rows.len()) {
+        return Err(Fault::WrongLength);
     }
-    if well_formed(rows) {} else {
-        return Stripped::Malformed;
+    if !well_formed(rows) {
+        return Err(Fault::Malformed);
     }
     if log.len() < rows.len() {
-        return Stripped::NoRoom;
+        return Err(Fault::NoRoom);
     }
     put_log(bytes, rows, log);
-    Stripped::Done
+    Ok(())
 }
 
 // The papers' number of an answer.
-fn number_of(answer: Stripped) -> u32
+fn number_of(answer: Result<(), Fault>) -> u32
     ensures { result ≡ number_of answer }
 {
     match answer {
-        Stripped::Done => 0,
-        Stripped::WrongLength => 9,
-        Stripped::Malformed => 10,
-        Stripped::NoRoom => 11,
-        Stripped::Unmatched => 16,
+        Ok(()) => 0,
+        Err(fault) => fault.number(),
     }
 }
 

@@ -5,6 +5,7 @@ use mathlib.Core.Bool.{Bool, true, false, ◌&&◌}
 use mathlib.Core.List.{List, [], ◌∷◌, ◌++◌, map}
 use lib.Dec.{leb}
 use lib.ListN.{length, replicate}
+use Rattle.std.specs.Prelude.{⊤, Result, Ok, Err}
 use Rattle.words.specs.Choice.{pick}
 use Rattle.words.specs.Row
 use Rattle.words.specs.Row.{row_of}
@@ -20,7 +21,8 @@ use Rattle.storing.specs.Strips.{strip_bytes, strip_rows, log_of, matched}
 use Rattle.storing.specs.Answer.{number_of, storing, restoring, Stored, Restored}
 use Rattle.storing.specs.File
 use Rattle.storing.specs.File.{Written, store_file, restore_file}
-use Rattle.storing.specs.declared.Stripped.TheVariants.{Done, WrongLength, Malformed, NoRoom, Unmatched}
+use Rattle.storing.specs.declared.Fault.{Fault}
+use Rattle.storing.specs.declared.Fault.TheVariants.{WrongLength, Malformed, NoRoom, Unmatched}
 
 -- A number, and the buffers or the bytes that come with it: what came, and what is to come.
 pub record Session : Type 0 where
@@ -256,7 +258,7 @@ files =
 -- the numbers of the answers
 abbrev numbers : Session
 numbers = record {
-  got = map number_of (Done ∷ WrongLength ∷ Malformed ∷ NoRoom ∷ Unmatched ∷ []) ∷ [];
+  got = map (λ (r : Result ⊤ Fault). number_of r) (Ok tt ∷ Err WrongLength ∷ Err Malformed ∷ Err NoRoom ∷ Err Unmatched ∷ []) ∷ [];
   wanted = (0 ∷ 9 ∷ 10 ∷ 11 ∷ 16 ∷ []) ∷ [];
 }
 

@@ -1,19 +1,23 @@
 -- What storing and restoring answer, and what they leave: the questions in their order.
-use Rattle.std.specs.Prelude.{ℕ, ◌+◌, ◌≡◌, ◌&&◌, List, leb, length}
+use Rattle.std.specs.Prelude.{ℕ, ◌+◌, ◌≡◌, ◌&&◌, List, Result, Ok, Err, leb, length}
 use Rattle.words.specs.Choice.{pick}
 use Rattle.history.specs.WellFormed.{well_formed}
 use Rattle.judging.specs.Answer.{right_length, laid}
 use Rattle.storing.specs.Strips.{strip_bytes, strip_rows, log_of, matched}
-use Rattle.storing.specs.declared.Stripped.{Stripped}
-use Rattle.storing.specs.declared.Stripped.TheVariants.{Done, WrongLength, Malformed, NoRoom, Unmatched}
+use Rattle.storing.specs.declared.Fault.{Fault}
+use Rattle.storing.specs.declared.Fault.TheVariants.{WrongLength, Malformed, NoRoom, Unmatched}
 
--- the papers' number of an answer, 0 for done
-abbrev pub number_of : Stripped → ℕ
-number_of Done = 0
-number_of WrongLength = 9
-number_of Malformed = 10
-number_of NoRoom = 11
-number_of Unmatched = 16
+-- the papers' number of a fault
+abbrev pub fault_number : Fault → ℕ
+fault_number WrongLength = 9
+fault_number Malformed = 10
+fault_number NoRoom = 11
+fault_number Unmatched = 16
+
+-- and of an answer, 0 for done
+abbrev pub number_of : {A : Type 0} → Result A Fault → ℕ
+number_of (Ok _) = 0
+number_of (Err f) = fault_number f
 
 -- "Storing passes questions 9 and 10"; "too few places lent, bytes or rows, is 11, last". By cases: a no with its number, or done.
 unfoldable pub storing : {A : Type 0} → List ℕ → ℕ → ℕ → (ℕ → A) → A → A

@@ -2,11 +2,12 @@
 // back are the log. The code is the crate `store`.
 #![tactic(auto)]
 
-// What storing or restoring says.
-#[derive(Clone, Copy)]
-pub enum Stripped {
-    // It is done.
-    Done,
+ghost use Rattle.std.specs.Prelude.{◌≡◌};
+ghost use Rattle.storing.specs.Answer.{fault_number};
+
+// Why a log is not stored, or not put back.
+#[derive(Clone, Copy, Debug, PartialEq, Eq)]
+pub enum Fault {
     // The log has no rows, or more than 4,096.
     WrongLength,
     // Its rows are not well formed.
@@ -15,4 +16,18 @@ pub enum Stripped {
     NoRoom,
     // The bytes and the rows of the strips do not match.
     Unmatched,
+}
+
+impl Fault {
+    // The papers' number of the question that is answered no.
+    pub fn number(self) -> u32
+        ensures { result ≡ fault_number self }
+    {
+        match self {
+            Fault::WrongLength => 9,
+            Fault::Malformed => 10,
+            Fault::NoRoom => 11,
+            Fault::Unmatched => 16,
+        }
+    }
 }

@@ -8,216 +8,123 @@
 //   12        the judge's verdict on the rows that are used, which are printed if there is a 1
 //   13        the judge's verdict on so many rows, with so many places for the order
 //   14        what the judge of bytes says of so many bytes
-ghost use Rattle.std.specs.Prelude.{◌<◌};
+use common::calls::Call;
 
-use super::calls::try_call;
-use super::changes::changed;
-use super::logs::{try_bytes, try_log};
-use super::same::{fewer, marks, written};
-use super::text::{print, print_answer, print_cells, print_rows, print_with};
-use common::State;
-use common::numbers::answer_word;
-use register::calls::Called;
-use register::set_up::{set_up, set_up_counted};
-use std::io;
-
+// The register of a set-up; the counted one has a fresh stamp.
 #[derive(Clone, Copy)]
-struct Act {
-    kind: u64,
-    a: u64,
-    b: u64,
-    c: u64,
+pub(crate) enum Kind {
+    Tickets,
+    Counted { fresh: u32 },
 }
 
-// The register's state, and how many cells and rows are lent.
+// What is looked at.
 #[derive(Clone, Copy)]
-struct Trial {
-    state: State,
-    cells: usize,
-    rows: usize,
+pub(crate) enum Look {
+    Cells,
+    Used { are_printed: bool },
+    First { rows: usize, places: usize },
+    Bytes { count: usize },
 }
 
-fn with_state(t: Trial, s: State) -> Trial {
-    let mut next = t;
-    next.state = s;
-    next
+// An act. The numbers are what a trial is written in; they are read once, below.
+#[derive(Clone, Copy)]
+pub(crate) enum Act {
+    Call {
+        call: Call,
+        state_stays: bool,
+        is_printed: bool,
+    },
+    Lend {
+        cells: usize,
+        rows: usize,
+    },
+    SetUp {
+        kind: Kind,
+        n: u32,
+        is_printed: bool,
+    },
+    Change {
+        p: u64,
+        field: u64,
+        value: u64,
+    },
+    PutCell {
+        at: usize,
+        word: u64,
+    },
+    PutRow {
+        at: usize,
+        word: u64,
+    },
+    Look(Look),
 }
 
-fn with_lent(t: Trial, cells: usize, rows: usize) -> Trial {
-    let mut next = t;
-    next.cells = cells;
-    next.rows = rows;
-    next
+// The low half of a number.
+fn low(number: u64) -> u32 {
+    (number % 4294967296) as u32
 }
 
-fn call(
-    rt: &impl Print,
-    t: Trial,
-    act: Act,
-    table: &mut [u64],
-    log: &mut [u64],
-) -> io::Result<Trial> {
-    let s = try_call(
-        rt,
-        act.b == 2,
-        (act.kind << 32) | act.a,
-        t.state,
-        table,
-        log,
-    )?;
-    if act.b == 1 {
-        return Ok(t);
-    }
-    Ok(with_state(t, s))
-}
-
-// A set-up, by its kind.
-fn set_up_of(act: Act, table: &mut [u64], log: &mut [u64]) -> Called {
-    let n = (act.a % 4294967296) as u32;
-    if act.kind == 6 {
-        return set_up(n, 7, table, log);
-    }
-    set_up_counted(n, 7, (act.b % 4294967296) as u32, table, log)
-}
-
-// Its answer, and how many words it wrote of buffers of marks.
-fn print_set_up(rt: &impl Print, word: u64, table: &[u64], log: &[u64]) -> io::Result<()> {
-    print_answer(rt, word)?;
-    print_with(rt, b", cells written ", written(table))?;
-    print_with(rt, b", rows written ", written(log))
-}
-
-fn prepare(
-    rt: &impl Print,
-    t: Trial,
-    act: Act,
-    table: &mut [u64],
-    log: &mut [u64],
-) -> io::Result<Trial> {
-    let o = set_up_of(act, table, log);
-    let answer = o.answer;
-    let s = o.state;
-    if act.c == 1 {
-        print_set_up(rt, answer_word(answer), table, log)?;
-    }
-    Ok(with_state(t, s))
-}
-
-// A word, by its place and its halves.
-fn put(words: &mut [u64], act: Act) {
-    let at = act.a as usize;
-    if at < words.len() {
-        words[at] = (act.b << 32) | act.c;
+fn call(call: Call, how: u64) -> Act {
+    Act::Call {
+        call,
+        state_stays: how == 1,
+        is_printed: how != 2,
     }
 }
 
-// The verdict on the first rows of the log.
-fn judge_first(rt: &impl Print, log: &[u64], rows: usize, places: usize) -> io::Result<()> {
-    let count = fewer(rows, log.len());
-    try_log(rt, &log[0..count], places)
-}
-
-fn judge_used(rt: &impl Print, s: State, printed: u64, log: &[u64]) -> io::Result<()> {
-    print(rt, b"; log")?;
-    let head = s.head;
-    let used = fewer(head.used, log.len());
-    if printed == 1 {
-        print_rows(rt, &log[0..used])?;
+fn set_up(kind: Kind, n: u32, printed: u64) -> Act {
+    Act::SetUp {
+        kind,
+        n,
+        is_printed: printed == 1,
     }
-    try_log(rt, &log[0..used], 16)
 }
 
-// An act that leaves table and log as they are.
-fn show(rt: &impl Print, t: Trial, act: Act, table: &[u64], log: &[u64]) -> io::Result<()> {
-    let kind = act.kind;
+// What the acts from 11 on look at.
+fn read_look(kind: u64, a: u64, b: u64) -> Look {
     match kind {
-        11 => print_cells(rt, table),
-        12 => judge_used(rt, t.state, act.a, log),
-        13 => judge_first(rt, log, act.a as usize, act.b as usize),
-        _ => try_bytes(rt, log, act.a as usize),
+        11 => Look::Cells,
+        12 => Look::Used {
+            are_printed: a == 1,
+        },
+        13 => Look::First {
+            rows: a as usize,
+            places: b as usize,
+        },
+        _ => Look::Bytes { count: a as usize },
     }
 }
 
-// An act with the cells and rows that are lent.
-fn act_on(
-    rt: &impl Print,
-    t: Trial,
-    act: Act,
-    table: &mut [u64],
-    log: &mut [u64],
-) -> io::Result<Trial> {
-    let kind = act.kind;
-    match kind {
-        1 | 2 | 3 | 4 => call(rt, t, act, table, log),
-        5 => Ok(with_lent(t, act.a as usize, act.b as usize)),
-        6 | 7 => prepare(rt, t, act, table, log),
-        8 => Ok(with_state(t, changed(t.state, act.a, act.b, act.c))),
-        9 => {
-            put(table, act);
-            Ok(t)
-        }
-        10 => {
-            put(log, act);
-            Ok(t)
-        }
-        _ => {
-            show(rt, t, act, table, log)?;
-            Ok(t)
-        }
+impl Act {
+    // The act that four numbers say; none if the first is 0.
+    pub(crate) fn read(numbers: &[u64]) -> Option<Act> {
+        let [kind, a, b, c] = *numbers else {
+            return None;
+        };
+        let at = a as usize;
+        let word = (b << 32) | c;
+        let fresh = low(b);
+        let act = match kind {
+            0 => return None,
+            1 => call(Call::Write(low(a)), b),
+            2 => call(Call::Read(low(a)), b),
+            3 => call(Call::Step(low(a)), b),
+            4 => call(Call::Retire(low(a)), b),
+            5 => Act::Lend {
+                cells: at,
+                rows: b as usize,
+            },
+            6 => set_up(Kind::Tickets, low(a), c),
+            7 => set_up(Kind::Counted { fresh }, low(a), c),
+            8 => Act::Change {
+                p: a,
+                field: b,
+                value: c,
+            },
+            9 => Act::PutCell { at, word },
+            10 => Act::PutRow { at, word },
+            _ => Act::Look(read_look(kind, a, b)),
+        };
+        Some(act)
     }
-}
-
-fn act_lent(
-    rt: &impl Print,
-    t: Trial,
-    act: Act,
-    table: &mut [u64],
-    log: &mut [u64],
-) -> io::Result<Trial> {
-    let cells = fewer(t.cells, table.len());
-    let rows = fewer(t.rows, log.len());
-    act_on(rt, t, act, &mut table[0..cells], &mut log[0..rows])
-}
-
-// The act at place k.
-fn act_at(numbers: &[u64; 256], k: usize) -> Act
-    requires { k < 64 }
-{
-    Act {
-        kind: numbers[4 * k],
-        a: numbers[4 * k + 1],
-        b: numbers[4 * k + 2],
-        c: numbers[4 * k + 3],
-    }
-}
-
-// The acts up to the first that is none, from a state on.
-fn act_all(
-    rt: &impl Print,
-    s: State,
-    numbers: &[u64; 256],
-    table: &mut [u64],
-    log: &mut [u64],
-) -> io::Result<()> {
-    let mut t = Trial {
-        state: s,
-        cells: 0,
-        rows: 0,
-    };
-    for k in 0usize..64 {
-        let act = act_at(numbers, k);
-        if act.kind == 0 {
-            return Ok(());
-        }
-        t = act_lent(rt, t, act, table, log)?;
-    }
-    Ok(())
-}
-
-// From the state of a refused set-up on, with buffers of marks.
-pub(crate) fn try_acts(rt: &impl Print, numbers: &[u64; 256]) -> io::Result<()> {
-    let mut table = marks();
-    let mut log = marks();
-    let o = set_up(0, 0, &mut table, &mut log);
-    act_all(rt, o.state, numbers, &mut table, &mut log)
 }

@@ -1,80 +1,60 @@
-// A state with a field changed.
+// A state with a field changed. The fields are numbered, since a trial is numbers: an enum between would be told by the same numbers.
 use common::{Head, Reader, State, Writer};
 use words::stamp::Stamp;
 
+fn byte(value: u64) -> u8 {
+    (value % 256) as u8
+}
+
+fn half(value: u64) -> u32 {
+    (value % 4294967296) as u32
+}
+
 // 1 the number of readers, 2 the log's rows, 3 the rows used, 4 the number of open operations.
-fn changed_head(h: Head, field: u64, value: u64) -> Head {
-    let mut t = h;
+fn change_head(head: &mut Head, field: u64, value: u64) {
     match field {
-        1 => t.n = (value % 4294967296) as u32,
-        2 => t.rows = value as usize,
-        3 => t.used = value as usize,
-        _ => t.opens = (value % 256) as u8,
+        1 => head.n = half(value),
+        2 => head.rows = value as usize,
+        3 => head.used = value as usize,
+        _ => head.opens = byte(value),
     }
-    t
 }
 
 // 5 cur, 6 prev.
-fn changed_stamp(s: Stamp, field: u64, value: u64) -> Stamp {
-    let mut t = s;
-    if field == 5 {
-        t.cur = (value % 256) as u8;
-        return t;
+fn change_stamp(stamp: &mut Stamp, field: u64, value: u64) {
+    match field {
+        5 => stamp.cur = byte(value),
+        _ => stamp.prev = byte(value),
     }
-    t.prev = (value % 256) as u8;
-    t
 }
 
 // 1 the words moved, 2 the set of tickets excluded, 3 the ticket, 4 the count; 5 and 6 of its stamp.
-fn changed_writer(w: Writer, field: u64, value: u64) -> Writer {
-    let mut t = w;
-    if 4 < field {
-        let stamp = changed_stamp(w.stamp, field, value);
-        t.stamp = stamp;
-        return t;
-    }
+fn change_writer(writer: &mut Writer, field: u64, value: u64) {
     match field {
-        1 => t.moved = (value % 256) as u8,
-        2 => t.excluded = value,
-        3 => t.ticket = (value % 256) as u8,
-        _ => t.count = (value % 4294967296) as u32,
+        1 => writer.moved = byte(value),
+        2 => writer.excluded = value,
+        3 => writer.ticket = byte(value),
+        0 | 4 => writer.count = half(value),
+        _ => change_stamp(&mut writer.stamp, field, value),
     }
-    t
 }
 
 // 1 the words moved, 2 whether it is the second attempt, 3 whether it is retired, 4 whether its read is open; 5 and 6 of its stamp.
-fn changed_reader(r: Reader, field: u64, value: u64) -> Reader {
-    let mut t = r;
-    if 4 < field {
-        let stamp = changed_stamp(r.stamp, field, value);
-        t.stamp = stamp;
-        return t;
-    }
+fn change_reader(reader: &mut Reader, field: u64, value: u64) {
     match field {
-        1 => t.moved = (value % 256) as u8,
-        2 => t.second = value == 1,
-        3 => t.retired = value == 1,
-        _ => t.active = value == 1,
+        1 => reader.moved = byte(value),
+        2 => reader.second = value == 1,
+        3 => reader.retired = value == 1,
+        0 | 4 => reader.active = value == 1,
+        _ => change_stamp(&mut reader.stamp, field, value),
     }
-    t
 }
 
 // Of processor p; with p above 16, of the head.
-pub(crate) fn changed(s: State, p: u64, field: u64, value: u64) -> State {
-    let mut t = s;
-    if p == 0 {
-        let w = changed_writer(s.writer, field, value);
-        t.writer = w;
-        return t;
+pub(crate) fn change(state: &mut State, p: u64, field: u64, value: u64) {
+    match p {
+        0 => change_writer(&mut state.writer, field, value),
+        1..=16 => change_reader(&mut state.readers[p as usize - 1], field, value),
+        _ => change_head(&mut state.head, field, value),
     }
-    if p <= 16 {
-        let i = (p - 1) as usize;
-        let old = s.readers[i];
-        let r = changed_reader(old, field, value);
-        t.readers[i] = r;
-        return t;
-    }
-    let h = changed_head(s.head, field, value);
-    t.head = h;
-    t
 }

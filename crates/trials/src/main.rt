@@ -4,17 +4,18 @@
 #![tactic(auto)]
 
 mod text; // what is printed
-mod same; // words and states compared
-mod calls; // begins, sub-steps and retirements, each watched
+mod marks; // buffers of marks
+mod calls; // how a call is printed
 mod logs; // the judge of rows and of bytes
 mod changes; // a state with a field changed
 mod acts; // what is done in a trial
-mod lines; // the trials of a text
+mod trial; // a trial, and what the acts make of it
+mod trial_lines; // the trials of a text
 
 use std::io;
 
 fn main(rt: HostRuntime) -> io::Result<()> {
     let mut text = [0u8; 65536];
     let n = inputs::read_standard(&rt, &mut text);
-    lines::try_all(&rt, &text[..n])
+    trial_lines::try_all(&rt, &text[..n])
 }

@@ -1,19 +1,29 @@
 // What is printed.
-use super::same::fewer;
-use std::io;
+use std::{fmt, io};
 
-pub(crate) fn print(rt: &impl Print, words: &[u8]) -> io::Result<()> {
-    rt.write_all(words)
+// An answer's word: above, the refusal number or 0; below, the sub-step's number or 0.
+#[derive(Clone, Copy)]
+pub(crate) struct Answer(pub u64);
+
+impl Answer {
+    // The refusal number, if it is one.
+    pub(crate) fn refusal(self) -> Option<u64> {
+        match self.0 / 4294967296 {
+            0 => None,
+            number => Some(number),
+        }
+    }
 }
 
-pub(crate) fn print_number(rt: &impl Print, number: u64) -> io::Result<()> {
-    print!(rt; "{number}")
-}
-
-// Words and a number.
-pub(crate) fn print_with(rt: &impl Print, words: &[u8], number: u64) -> io::Result<()> {
-    print(rt, words)?;
-    print_number(rt, number)
+impl fmt::Display for Answer {
+    fn fmt<W: fmt::Write>(&self, f: &mut fmt::Formatter<W>) -> fmt::Result {
+        let word = self.0;
+        match self.refusal() {
+            Some(number) => write!(f, "refused {number}"),
+            None if word != 0 => write!(f, "sub-step {word}"),
+            None => write!(f, "accepted"),
+        }
+    }
 }
 
 // Rows in hexadecimal.
@@ -24,34 +34,11 @@ pub(crate) fn print_rows(rt: &impl Print, rows: &[u64]) -> io::Result<()> {
     Ok(())
 }
 
-pub(crate) fn print_cells(rt: &impl Print, table: &[u64]) -> io::Result<()> {
-    print(rt, b"; cells")?;
-    print_rows(rt, table)
-}
-
-// The refusal number in an answer's word, or 0.
-pub(crate) fn refusal_in(word: u64) -> u64 {
-    word / 4294967296
-}
-
-// An answer's word.
-pub(crate) fn print_answer(rt: &impl Print, word: u64) -> io::Result<()> {
-    let number = refusal_in(word);
-    if number != 0 {
-        print_with(rt, b"refused ", number)
-    } else if word != 0 {
-        print_with(rt, b"sub-step ", word)
-    } else {
-        print(rt, b"accepted")
-    }
-}
-
-// The first count words of an order.
-pub(crate) fn print_order(rt: &impl Print, order: &[u64], count: usize) -> io::Result<()> {
-    print(rt, b"order")?;
-    let n = fewer(count, order.len());
-    for key in &order[..n] {
-        print_with(rt, b" ", *key)?;
+// The begin rows of an order.
+pub(crate) fn print_order(rt: &impl Print, order: &[u64]) -> io::Result<()> {
+    print!(rt; "order")?;
+    for begin in order {
+        print!(rt; " {begin}")?;
     }
     Ok(())
 }

@@ -6,7 +6,10 @@ use mathlib.Core.Logic.{◌≢◌}
 use mathlib.Core.List.{List, [], ◌∷◌, ◌++◌, map}
 use lib.ListN.{length, take}
 use Rattle.lines.specs.Lines.{Puts}
-use Rattle.lines.proofs.Puts.{behind, nothing, whole}
+use Rattle.lines.specs.declared.Lent.{Lent}
+use Rattle.lines.specs.Adds.{Adds}
+use Rattle.lines.proofs.Puts.{nothing, whole}
+use Rattle.lines.proofs.Adds.{then_adds}
 use Rattle.schedules.specs.Schedules.{Turn, w, r, after_writer, after_reader}
 use Rattle.schedules.specs.Numbers.{value, numbers, top, listed, Lists}
 use Rattle.schedules.proofs.Numbers.{with_w, with_r, numbers_append, top_le, top_ge, listed_short, listed_long, listed_few, lists}
@@ -26,12 +29,12 @@ pub reader_follows : Follows after_reader
 unfolding after_writer after_reader
 reader_follows = record { end = refl; writer = λ k a. refl; reader = λ k b. refl; both = λ k a b. refl }
 
-module _ (f : ℕ → ℕ → ℕ → List (List Turn)) (F : Follows f) (a b d : ℕ) {l x : List ℕ} {p e : ℕ} where
-  pub put_end : b ≡ 0 → a ≡ 0 → Puts (d ∷ []) p l x e → Puts (numbers d (f (a + b) a b)) p l x e
+module _ (f : ℕ → ℕ → ℕ → List (List Turn)) (F : Follows f) (a b d : ℕ) {old new : Lent ℕ} where
+  pub put_end : b ≡ 0 → a ≡ 0 → Adds (d ∷ []) old new → Adds (numbers d (f (a + b) a b)) old new
   unfolding numbers value
   put_end z y P = rw (z, y, F.end) P
 
-  pub put_writer : b ≡ 0 → a ≢ 0 → Puts (numbers (2 * d) (after_writer (a - 1 + b) (a - 1) b)) p l x e → Puts (numbers d (f (a + b) a b)) p l x e
+  pub put_writer : b ≡ 0 → a ≢ 0 → Adds (numbers (2 * d) (after_writer (a - 1 + b) (a - 1) b)) old new → Adds (numbers d (f (a + b) a b)) old new
   put_writer z y P = rw (only_w a b z y, with_w d (after_writer (a - 1 + b) (a - 1) b)) P
     where
       only_w : (a b : ℕ) → b ≡ 0 → a ≢ 0 → f (a + b) a b ≡ map (w ∷◌) (after_writer (a - 1 + b) (a - 1) b)
@@ -42,7 +45,7 @@ module _ (f : ℕ → ℕ → ℕ → List (List Turn)) (F : Follows f) (a b d :
           let j : suc a - 1 + b ≡ a = omega arith in
           rw (h, j, i, z) (F.writer a a)
 
-  pub put_reader : b ≢ 0 → a ≡ 0 → Puts (numbers (2 * d + 1) (after_reader (a + (b - 1)) a (b - 1))) p l x e → Puts (numbers d (f (a + b) a b)) p l x e
+  pub put_reader : b ≢ 0 → a ≡ 0 → Adds (numbers (2 * d + 1) (after_reader (a + (b - 1)) a (b - 1))) old new → Adds (numbers d (f (a + b) a b)) old new
   put_reader z y P = rw (only_r a b z y, with_r d (after_reader (a + (b - 1)) a (b - 1))) P
     where
       only_r : (a b : ℕ) → b ≢ 0 → a ≡ 0 → f (a + b) a b ≡ map (r ∷◌) (after_reader (a + (b - 1)) a (b - 1))
@@ -53,16 +56,16 @@ module _ (f : ℕ → ℕ → ℕ → List (List Turn)) (F : Follows f) (a b d :
           let j : a + (suc b - 1) ≡ b = omega arith in
           rw (h, j, i, y) (F.reader b b)
 
-  pub put_both : {m : List ℕ} {q : ℕ} → b ≢ 0 → a ≢ 0 → Puts (numbers (2 * d) (after_writer (a - 1 + b) (a - 1) b)) p l m q
-      → Puts (numbers (2 * d + 1) (after_reader (a + (b - 1)) a (b - 1))) q m x e
-      → Puts (numbers d (f (a + b) a b)) p l x e
+  pub put_both : {mid : Lent ℕ} → b ≢ 0 → a ≢ 0 → Adds (numbers (2 * d) (after_writer (a - 1 + b) (a - 1) b)) old mid
+      → Adds (numbers (2 * d + 1) (after_reader (a + (b - 1)) a (b - 1))) mid new
+      → Adds (numbers d (f (a + b) a b)) old new
   put_both z y P Q =
       rw (
         both_is a b z y,
         numbers_append d (map (w ∷◌) (after_writer (a - 1 + b) (a - 1) b)) (map (r ∷◌) (after_reader (a + (b - 1)) a (b - 1))),
         with_w d (after_writer (a - 1 + b) (a - 1) b),
         with_r d (after_reader (a + (b - 1)) a (b - 1)),
-      ) (behind P Q)
+      ) (then_adds P Q)
     where
       both_is : (a b : ℕ) → b ≢ 0 → a ≢ 0 → f (a + b) a b ≡ map (w ∷◌) (after_writer (a - 1 + b) (a - 1) b) ++ map (r ∷◌) (after_reader (a + (b - 1)) a (b - 1))
       both_is zero b z y = absurd (y refl)

@@ -2,58 +2,47 @@
 // the highest, 1 for the reader.
 #![tactic(auto)]
 
-ghost use Rattle.std.specs.Prelude.{[], ◌∷◌, ◌+◌, ◌<◌, ◌≤◌, ◌^◌, length, take};
+ghost use Rattle.std.specs.Prelude.{◌+◌, ◌<◌, ◌≤◌, ◌^◌, length, take};
 ghost use Rattle.lines.specs.Lines.{Puts};
+ghost use Rattle.lines.specs.Adds.{Adds};
 ghost use Rattle.schedules.specs.Schedules.{after_writer, after_reader};
 ghost use Rattle.schedules.specs.Numbers.{numbers, top, listed, Lists};
 
-// One schedule, if there is a place for it.
-fn put_schedule(list: &mut [u64], at: usize, schedule: u64) -> usize
-    ensures { Puts (schedule ∷ []) at list.old list.new result }
-{
-    if at < list.len() {
-        list[at] = schedule;
-        return at + 1;
-    }
-    at
-}
+use lines::Lent;
 
-// What may follow a writer's turn, behind the turns made so far, which d stands for.
+// What may follow a writer's turn, behind the turns made so far, which d stands for. What may follow a reader's turn is the same, and stays a
+// function of its own since `after_writer` and `after_reader` of schedules/specs are two, each defined through the other.
 #[cycle(after_reader_after_writer)]
-fn after_writer(a: u64, b: u64, d: u64, list: &mut [u64], at: usize) -> usize
+fn after_writer(a: u64, b: u64, d: u64, list: &mut Lent<u64>)
     requires { top (a + b) d < 2 ^ 32 }
-    ensures { Puts (numbers d (after_writer (a + b) a b)) at list.old list.new result }
+    ensures { Adds (numbers d (after_writer (a + b) a b)) list.old list.new }
 {
-    if b == 0 {
-        if a == 0 {
-            return put_schedule(list, at, d);
+    match (a, b) {
+        (0, 0) => list.put(d),
+        (_, 0) => after_writer(a - 1, b, 2 * d, list),
+        (0, _) => after_reader(a, b - 1, 2 * d + 1, list),
+        _ => {
+            after_writer(a - 1, b, 2 * d, list);
+            after_reader(a, b - 1, 2 * d + 1, list);
         }
-        return after_writer(a - 1, b, 2 * d, list, at);
     }
-    if a == 0 {
-        return after_reader(a, b - 1, 2 * d + 1, list, at);
-    }
-    let end = after_writer(a - 1, b, 2 * d, list, at);
-    after_reader(a, b - 1, 2 * d + 1, list, end)
 }
 
 // What may follow a reader's turn.
 #[cycle(after_reader_after_writer)]
-fn after_reader(a: u64, b: u64, d: u64, list: &mut [u64], at: usize) -> usize
+fn after_reader(a: u64, b: u64, d: u64, list: &mut Lent<u64>)
     requires { top (a + b) d < 2 ^ 32 }
-    ensures { Puts (numbers d (after_reader (a + b) a b)) at list.old list.new result }
+    ensures { Adds (numbers d (after_reader (a + b) a b)) list.old list.new }
 {
-    if b == 0 {
-        if a == 0 {
-            return put_schedule(list, at, d);
+    match (a, b) {
+        (0, 0) => list.put(d),
+        (_, 0) => after_writer(a - 1, b, 2 * d, list),
+        (0, _) => after_reader(a, b - 1, 2 * d + 1, list),
+        _ => {
+            after_writer(a - 1, b, 2 * d, list);
+            after_reader(a, b - 1, 2 * d + 1, list);
         }
-        return after_writer(a - 1, b, 2 * d, list, at);
     }
-    if a == 0 {
-        return after_reader(a, b - 1, 2 * d + 1, list, at);
-    }
-    let end = after_writer(a - 1, b, 2 * d, list, at);
-    after_reader(a, b - 1, 2 * d + 1, list, end)
 }
 
 // All schedules of up to 16 turns, in dictionary order, the writer first, as far as there are places; gives how many stand there: 12,870
@@ -67,5 +56,10 @@ pub fn list_schedules(a: u32, b: u32, list: &mut [u64]) -> usize
     if 16 < writer + reader {
         return 0;
     }
-    after_writer(writer, reader, 0, list, 0)
+    let mut listed = Lent {
+        places: list,
+        at: 0,
+    };
+    after_writer(writer, reader, 0, &mut listed);
+    listed.at
 }

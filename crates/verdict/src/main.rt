@@ -2,35 +2,31 @@
 // `refused` and a number. The logs are its inputs: see the crate `inputs`.
 #![tactic(auto)]
 
-ghost use Rattle.std.specs.Prelude.{◌≡◌, length};
+ghost use Rattle.std.specs.Prelude.{refl};
+ghost use Rattle.inputs.proofs.Fits.{fits};
+ghost use Rattle.printing.specs.Verdict.{verdict_print};
+ghost use Rattle.printing.proofs.Short.{verdict_short};
 
+use inputs::{LOG, Prints};
 use prints::verdict::verdict_print;
 use std::io;
 
-// Room for every line.
-fn line_bytes() -> [u8; 131072]
-    ensures { 131072 ≡ length result }
-{
-    [0; 131072]
-}
+struct Verdict;
 
-// The line of input k. Of an input that is longer than 4,096 rows one byte more is read.
-fn print_input(rt: &HostRuntime, k: usize) -> io::Result<()> {
-    let mut bytes = inputs::log_bytes();
-    let input = inputs::read(rt, k, &mut bytes);
-    if input.found {
-        let count = input.count;
-        let mut out = line_bytes();
-        let n = verdict_print(&bytes[..count], &mut out);
-        rt.write_all(&out[..n])?;
+impl Prints<LOG, 131072> for Verdict {
+    ghost said = { verdict_print };
+
+    fn print(bytes: &[u8], out: &mut [u8]) -> usize {
+        verdict_print(bytes, out)
     }
-    Ok(())
+
+    ghost short = { verdict_short };
+
+    ghost room_fits = { fits 32769 refl };
+
+    ghost size_fits = { fits 131072 refl };
 }
 
 fn main(rt: HostRuntime) -> io::Result<()> {
-    let end = inputs::end(&rt);
-    for k in 1..end {
-        print_input(&rt, k)?;
-    }
-    Ok(())
+    Verdict::print_each(&rt)
 }

@@ -2,8 +2,11 @@
 #![tactic(auto)]
 
 ghost use Rattle.std.specs.Prelude.{◌≡◌};
-ghost use Rattle.lines.specs.Lines.{row_line, rows_text, Puts};
+ghost use Rattle.lines.specs.Lines.{rows_text};
+ghost use Rattle.lines.specs.Adds.{Adds};
 ghost use Rattle.walker.specs.Walk.{step_at};
+
+use lines::Sink;
 
 // A walker over the rows of a lent log: the log, and the next row.
 #[derive(Clone, Copy)]
@@ -24,12 +27,13 @@ fn step_at(log: &[u64], k: usize) -> Step
     ensures { result ≡ step_at log.now k }
 {
     if k < log.len() {
-        return Step {
+        Step {
             row: log[k],
             next: k + 1,
-        };
+        }
+    } else {
+        Step { row: 0, next: k }
     }
-    Step { row: 0, next: k }
 }
 
 // A walker that stands before row `next`.
@@ -50,24 +54,13 @@ pub fn advance<'s, 'a>(w: &'s mut Walker<'a>) -> Step
     s
 }
 
-// The line of row k.
-fn put_line(out: &mut [u8], at: usize, k: usize, row: u64) -> usize
-    ensures { Puts (row_line k row) at out.old out.new result }
-{
-    lines::put_row(out, at, k as u64, row)
-}
-
-// The lines of all rows behind row 0, put into lent bytes as far as there is room; gives the place behind them. One walker goes over the
-// rows.
-pub fn list_rows(log: &[u64], out: &mut [u8]) -> usize
-    ensures { Puts (rows_text log.now) 0 out.old out.new result }
+// The lines of all rows behind row 0. One walker goes over the rows.
+pub fn list_rows(log: &[u64], out: &mut Sink)
+    ensures { Adds (rows_text log.now) out.old out.new }
 {
     let mut w = make(log, 1);
-    let mut at = 0;
-    while w.next < log.len() {
-        let k = w.next;
+    for k in 1..log.len() {
         let s = advance(&mut w);
-        at = put_line(out, at, k, s.row);
+        out.put_row(k as u64, s.row);
     }
-    at
 }

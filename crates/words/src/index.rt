@@ -10,14 +10,13 @@ pub fn row_start(n: u32, i: u32) -> usize
 }
 
 // Where in the row of processor i the cell to processor j stands.
+#[tactic(auto, unfolding(crate::specs::Index::in_row))]
 pub fn in_row(i: u32, j: u32) -> usize
     ensures { result ≡ in_row i j }
 {
-    if j < i {
-        return j as usize;
+    if j < i || j == 0 {
+        j as usize
+    } else {
+        j as usize - 1
     }
-    if j == 0 {
-        return 0;
-    }
-    j as usize - 1
 }

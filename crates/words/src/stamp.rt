@@ -4,7 +4,7 @@ ghost use Rattle.words.specs.Stamp.{none, same, stamp_ok};
 
 // A write's own ticket and that of the write before.
 #[repr(C)]
-#[derive(Clone, Copy)]
+#[derive(Clone, Copy, Debug, PartialEq, Eq)]
 pub struct Stamp {
     pub cur: u8,
     pub prev: u8,
@@ -21,12 +21,12 @@ pub fn no_stamp() -> Stamp
 pub fn equal(a: Stamp, b: Stamp) -> bool
     ensures { result ≡ same a b }
 {
-    (a.cur == b.cur) & (a.prev == b.prev)
+    a == b
 }
 
 // Whether both tickets fit a cell.
 pub fn in_range(s: Stamp) -> bool
     ensures { result ≡ stamp_ok s }
 {
-    (s.cur < 64) & (s.prev < 64)
+    s.cur < 64 && s.prev < 64
 }

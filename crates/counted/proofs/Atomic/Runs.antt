@@ -11,7 +11,8 @@ use Rattle.numbered.proofs.Machine.{Reader, St}
 use Rattle.numbered.proofs.Start.{fresh_st, fresh_me, start_inv}
 use Rattle.numbered.proofs.Log.{log_start}
 use Rattle.numbered.proofs.Distinct.{itself}
-use Rattle.common.specs.Calls.{Call, LowCalls}
+use Rattle.common.specs.Calls.{LowCalls}
+use Rattle.common.specs.declared.calls.Call.{Call}
 use Rattle.common.specs.Book.{open_with, fresh_model, kept}
 use Rattle.common.proofs.Follows.{gains, all_at, gains_all, from_start, Follows, calls_follow}
 use Rattle.counted.specs.declared.Cell.{Cell}

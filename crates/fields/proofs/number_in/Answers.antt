@@ -1,21 +1,22 @@
 use native.Mathlib.Omega.{arith}
-use mathlib.Core.Path.{refl, sym, ◌∙◌}
-use Rattle.fields.proofs.FieldLaws.{number_none, number_is, digits_next, digits_end}
+use mathlib.Core.Path.{◌≡◌, sym, ◌∙◌}
+use Rattle.std.proofs.Common.{◌≢◌, length, rules}
+use Rattle.fields.specs.Fields.{none, number_in}
+use Rattle.fields.proofs.FieldLaws.{number_none, number_is, digits_end, digits_go, digits_stop}
 use Rattle.fields.proofs.number_in.Goals as goal
 
-pub returns-then-text-eq0 : goal.returns-then-text-eq0
-returns-then-text-eq0 c = number_none _ c.if-text-eq0.true
+pub returns-then-is_empty : goal.returns-then-is_empty
+returns-then-is_empty c = sym (number_none _ (search rules))
 
-pub loop-i-init : goal.loop-i-init
-loop-i-init c = (omega arith, refl)
+pub returns-in_err-v : goal.returns-in_err-v
+returns-in_err-v c =
+    let no : number_in c.args.text.now ≡ none = digits_stop _ _ c.loop-b.b-index (omega arith) c.loop-b.invariant.rest c.in_err-v.ensures in
+    search rules
 
-pub loop-i-preserved : goal.loop-i-preserved
-loop-i-preserved c =
-    let I = c.loop-i.invariant in (
-      c.digit_after-v.ensures.1,
-      rw c.digit_after-v.ensures.0 (sym (digits_next _ _ _ c.loop-i-test.true) ∙ I.1),
-    )
+pub loop-b-preserved : goal.loop-b-preserved
+loop-b-preserved c = record { rest = digits_go _ _ _ (omega arith) c.loop-b.invariant.rest _ c.in_ok-v.ensures; low = omega arith }
 
 pub returns : goal.returns
 returns c =
-    sym (digits_end _ _ _ c.loop-i-test.false) ∙ c.loop-i.invariant.1 ∙ number_is _ c.if-text-eq0.false
+    let some : length c.args.text.now ≢ 0 = λ z. search rules in
+    (sym (digits_end c.loop-b.v c.args.text.now c.loop-b.b-index (omega arith)) ∙ c.loop-b.invariant.rest ∙ number_is _ some, c.loop-b.invariant.low)

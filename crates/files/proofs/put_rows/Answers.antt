@@ -1,33 +1,20 @@
-use Prim.Native.Nat.{ℕ}
 use native.Mathlib.Omega.{arith}
-use mathlib.Core.Path.{refl}
-use mathlib.Core.List.{List}
-use borrow.Author.Rules.{rules}
+use lib.Seq.{take_all}
 use Rattle.logbytes.specs.Bytes.{bytes_of}
-use Rattle.logbytes.proofs.Laws.{bytes_length}
-use Rattle.lines.proofs.Puts.{nothing, next_text, all_texts, same_length as same}
+use Rattle.logbytes.proofs.Laws.{bytes_next}
+use Rattle.lines.proofs.Adds.{no_text, then_adds}
 use Rattle.files.proofs.put_rows.Goals as goal
 
-pub loop-k-init : goal.loop-k-init
-loop-k-init c = nothing _ _
+pub loop-row-init : goal.loop-row-init
+unfolding bytes_of
+loop-row-init c = no_text _
 
-pub overflow_add-k : goal.overflow_add-k
-overflow_add-k c = search rules
-
-pub loop-k-smaller : goal.loop-k-smaller
-loop-k-smaller c = omega arith
-
-pub loop-k-preserved : goal.loop-k-preserved
-loop-k-preserved c =
-    let l = c.loop-k in
-    let r = c.args.rows.now in
-    next_text (λ (t : List ℕ). t) (bytes_of r) l.k (omega (arith, bytes_length r)) refl l.invariant
-    (rw (← c.byte_at.ensures) c.put_byte-end.ensures)
-
-pub shape_of-out : goal.shape_of-out
-shape_of-out c = same c.loop-k.invariant
+pub loop-row-preserved : goal.loop-row-preserved
+loop-row-preserved c =
+    let l = c.loop-row in
+    rw (bytes_next c.args.rows.now l.row-index (omega arith), ← c.to_be_bytes.ensures) (then_adds l.invariant c.put_text.ensures)
 
 pub returns : goal.returns
 returns c =
-    let r = c.args.rows.now in
-    all_texts (λ (t : List ℕ). t) (bytes_of r) c.loop-k.k (omega (arith, bytes_length r)) c.loop-k.invariant
+    let l = c.loop-row in
+    rw (take_all l.row-index c.args.rows.now (omega arith)) at l.invariant

@@ -17,5 +17,5 @@ pub returns : goal.returns
 unfolding store_file
 returns c =
     let b = c.args.log.now in
-    let m : Made (store_file b) _ _ _ _ = rw (rows_front b row_array c.rows_in-n.ensures) at c.put_stored.ensures in
+    let m : Made (store_file b) _ _ _ = rw (rows_front b row_array c.rows_in-n.ensures) at c.put_stored.ensures in
     record { made = m; within = within m.put; whole = λ room. whole m.put (omega (arith, stored_length b, room)) }

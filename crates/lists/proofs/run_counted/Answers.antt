@@ -6,7 +6,8 @@ use native.Mathlib.Omega.{arith}
 use mathlib.Core.Path.{sym, ap, ◌∙◌}
 use mathlib.Core.List.{List}
 use Rattle.common.specs.Answers.{reply}
-use Rattle.common.specs.Calls.{Call, LowCalls}
+use Rattle.common.specs.Calls.{LowCalls}
+use Rattle.common.specs.declared.calls.Call.{Call}
 use Rattle.counted.specs.Whole.{Whole}
 use Rattle.lists.proofs.run_counted.Goals as goal
 

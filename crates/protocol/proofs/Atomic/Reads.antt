@@ -41,13 +41,7 @@ module _ (n : ℕ) (few : n ≤ 16) (c val : ℕ → ℕ) (low : Low c val) (b :
       at (storing f p m' k) g r = store_sim n few c val low b s me i hi z m f p m' k cells g r
 
   abbrev pub begun_read : Model
-  begun_read = record {
-    table = b.table;
-    rows = b.rows ++ (row_of 3 (suc i) 0 ∷ []);
-    stamp = b.stamp;
-    op = upd b.op (suc i) (open_with 0 0 []);
-    retired = b.retired;
-  }
+  begun_read = record b { rows = b.rows ++ (row_of 3 (suc i) 0 ∷ []); op = upd b.op (suc i) (open_with 0 0 []) }
 
   pub r_begin_sim : b.op (suc i) ≡ idle → Go n c val begun_read s
   r_begin_sim e = at (me i).ph refl (rw e at (z.readers i hi))

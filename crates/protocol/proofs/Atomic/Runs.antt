@@ -11,7 +11,8 @@ use Rattle.numbered.proofs.Machine.{Reader, St}
 use Rattle.numbered.proofs.Start.{fresh_st, fresh_me, start_inv}
 use Rattle.numbered.proofs.Log.{log_start}
 use Rattle.common.specs.Book.{open_with, entered, fresh_model, kept}
-use Rattle.common.specs.Calls.{Call, LowCalls}
+use Rattle.common.specs.Calls.{LowCalls}
+use Rattle.common.specs.declared.calls.Call.{Call}
 use Rattle.common.proofs.Follows.{all_at, Future, from_start, Follows, calls_follow}
 use Rattle.protocol.specs.Reference.{Model, book}
 use Rattle.protocol.proofs.Table.{fresh_length, fresh_writer_lem, fresh_reader_lem}

@@ -12,7 +12,9 @@ use Rattle.words.specs.Update.{upd}
 use Rattle.words.proofs.Laws.Choice.{pick_ind, lt_ind, le_ind, eq_ind}
 use Rattle.words.proofs.Laws.Update.{upd_same, upd_other}
 use Rattle.common.specs.Book.{idle, open_with, is_open, begun, begins, moves_write, moves_read, told}
-use Rattle.common.specs.Calls.{Call, write, read, step, retire, LowCall, LowCalls}
+use Rattle.common.specs.Calls.{LowCall, LowCalls}
+use Rattle.common.specs.declared.calls.Call.{Call}
+use Rattle.common.specs.declared.calls.Call.TheVariants.{Write as write, Read as read, Step as step, Retire as retire}
 use Rattle.common.proofs.Asked.{of_processor_lem}
 use Rattle.common.proofs.Follows.{All, gains, gains_all}
 use Rattle.protocol.specs.Reference.{Operation, Model, Turn, ticket_after, write_turn, book, Told}

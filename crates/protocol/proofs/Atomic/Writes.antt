@@ -31,13 +31,7 @@ module _ (n : ℕ) (pos : 1 ≤ n) (c val : ℕ → ℕ) (low : Low c val) where
   module _ (b : Model) (s : St) (me : ℕ → Reader) where
     -- A write begins.
     abbrev pub begun_write : ℕ → Model
-    begun_write v = record {
-      table = b.table;
-      rows = b.rows ++ (row_of 1 0 v ∷ []);
-      stamp = b.stamp;
-      op = upd b.op 0 (open_with v 0 []);
-      retired = b.retired;
-    }
+    begun_write v = record b { rows = b.rows ++ (row_of 1 0 v ∷ []); op = upd b.op 0 (open_with v 0 []) }
 
     pub w_begin_sim : (v : ℕ) → v < 2 ^ 32 → b.op 0 ≡ idle → Sim n c val b s me → Sim n c val (begun_write v) (w_begin n c s) me
     w_begin_sim v vl e z =

@@ -1,5 +1,7 @@
 use Prim.Native.Nat.{◌+◌}
-use native.Mathlib.Omega.{arith}
+use Rattle.std.proofs.Common.{arith, rules}
+use Rattle.lines.specs.Lines.{Puts}
+use Rattle.schedules.specs.Numbers.{listed}
 use Rattle.schedules.proofs.Numbers.{top_fits}
 use Rattle.turns.proofs.Following.{short_list, long_list, all_listed}
 use Rattle.turns.proofs.list_schedules.Goals as goal
@@ -13,4 +15,5 @@ after_writer-requires c = let a = c.args in omega (arith, top_fits (a.a + a.b) (
 
 pub returns : goal.returns
 returns c =
-    let p = short_list _ _ c.if-writer-reader-gt16.false c.after_writer.ensures in record { list = p; all = all_listed _ _ p }
+    let p : Puts (listed c.args.a c.args.b) 0 c.args.list.now _ _ = short_list _ _ c.if-writer-reader-gt16.false (search rules) in
+    record { list = p; all = all_listed _ _ p }

@@ -1,10 +1,8 @@
-use Rattle.std.proofs.Common.{◌≡◌, ◌-◌, ◌≤◌, length, take}
-use Rattle.lines.specs.Lines.{rows_text, Puts}
+use Rattle.std.proofs.Common.{◌≡◌, take}
+use Rattle.lines.specs.Lines.{rows_text}
+use Rattle.lines.specs.Adds.{Adds}
 use Rattle.walker.proofs.list_rows.Given as goal
 
 -- the rows before the walker's are listed
-abbrev pub invariant-loop-w : goal.invariant-loop-w
-invariant-loop-w l = (1 ≤ l.w.next) × (l.w.log.now ≡ l.log) × Puts (rows_text (take l.w.next l.log)) 0 l.initial.out l.out l.at
-
-abbrev pub decreases-loop-w : goal.decreases-loop-w
-decreases-loop-w l = length l.log - l.w.next
+abbrev pub invariant-loop-k : goal.invariant-loop-k
+invariant-loop-k l = (l.w.next ≡ l.k) × (l.w.log.now ≡ l.log) × Adds (rows_text (take l.k l.log)) l.initial.out l.out

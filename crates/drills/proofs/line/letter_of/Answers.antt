@@ -1,14 +1,20 @@
-use Rattle.drills.proofs.Turns.{letter_w, letter_r, capital_w, capital_r}
+use Rattle.std.proofs.Common.{arith}
+use Rattle.std.proofs.lemmas.Bool.Decides.{nat_tests}
+use Rattle.drills.specs.Words.{word_letter}
 use Rattle.drills.proofs.line.letter_of.Goals as goal
 
-pub returns-then-call-eq0 : goal.returns-then-call-eq0
-returns-then-call-eq0 c = letter_w _ _ c.if-answer-eq0.true c.if-call-eq0.true
+pub returns-in-true-true : goal.returns-in-true-true
+unfolding word_letter
+returns-in-true-true c = grind (arith, nat_tests)
 
-pub returns-then-answer-eq0 : goal.returns-then-answer-eq0
-returns-then-answer-eq0 c = letter_r _ _ c.if-answer-eq0.true c.if-call-eq0.false
+pub returns-in-true-false : goal.returns-in-true-false
+unfolding word_letter
+returns-in-true-false c = grind (arith, nat_tests)
 
-pub returns-then-call-eq0-2 : goal.returns-then-call-eq0-2
-returns-then-call-eq0-2 c = capital_w _ _ c.if-answer-eq0.false c.if-call-eq0-2.true
+pub returns-in-false-true : goal.returns-in-false-true
+unfolding word_letter
+returns-in-false-true c = grind (arith, nat_tests)
 
-pub returns : goal.returns
-returns c = capital_r _ _ c.if-answer-eq0.false c.if-call-eq0-2.false
+pub returns-in-false-false : goal.returns-in-false-false
+unfolding word_letter
+returns-in-false-false c = grind (arith, nat_tests)

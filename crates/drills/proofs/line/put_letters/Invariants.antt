@@ -1,11 +1,7 @@
-use Prim.Native.Nat.{◌-◌}
-use lib.ListN.{length, take}
-use Rattle.lines.specs.Lines.{Puts}
+use Rattle.std.proofs.Common.{length, take}
+use Rattle.lines.specs.Adds.{Adds}
 use Rattle.drills.specs.Words.{word_letters}
 use Rattle.drills.proofs.line.put_letters.Given as goal
 
-abbrev pub invariant-loop-i : goal.invariant-loop-i
-invariant-loop-i l = Puts (word_letters (take l.i l.calls) (take l.i l.answers)) l.at l.initial.out l.out l.end
-
-abbrev pub decreases-loop-i : goal.decreases-loop-i
-decreases-loop-i l = length l.calls - l.i
+abbrev pub invariant-loop-call : goal.invariant-loop-call
+invariant-loop-call l = Adds (word_letters (take (length l.yielded) l.calls) (take (length l.yielded) l.answers)) l.initial.out l.out

@@ -27,4 +27,4 @@ slice_bounds-put_verdict-end c =
 pub returns : goal.returns
 returns c =
     let r = c.run-ran.ensures in
-    line_is _ _ _ _ _ c.requires.0 (omega (arith, c.ranges.v)) c.requires.1 _ _ c.put_turns.ensures r.1 c.put_letters-end.ensures c.put_byte-verdict.ensures c.put_verdict.ensures
+    line_is _ _ _ _ _ c.requires.0 (omega (arith, c.ranges.v)) c.requires.1 _ _ c.put_turns.ensures r.1 c.put_letters.ensures c.put.ensures c.put_verdict.ensures

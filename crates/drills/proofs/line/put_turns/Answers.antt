@@ -1,15 +1,15 @@
+use Prim.Native.Nat.{◌+◌, ◌-◌}
 use native.Mathlib.Omega.{arith}
-use mathlib.Core.Path.{refl, sym, ◌∙◌}
+use mathlib.Core.Path.{◌≡◌, sym, ◌∙◌}
 use Rattle.drills.proofs.Turns.{turns_next, turns_end}
 use Rattle.drills.proofs.line.put_turns.Goals as goal
 
-pub loop-left-init : goal.loop-left-init
-loop-left-init c = (omega arith, refl)
-
-pub loop-left-preserved : goal.loop-left-preserved
-loop-left-preserved c =
-    let i = c.loop-left.invariant in
-    (omega (arith, i.0), sym (turns_next _ _ _ c.loop-left-test.true) ∙ i.1)
+pub loop-i-preserved : goal.loop-i-preserved
+loop-i-preserved c =
+    let left = c.args.turns - c.loop-i.i in
+    let e : c.args.turns + 1 - c.loop-i.i ≡ left + 1 = omega arith in
+    let f : c.args.turns - (c.loop-i.i + 1) ≡ left - 1 = omega arith in
+    rw (e, f) (sym (turns_next _ left _ (omega arith)) ∙ c.loop-i.invariant)
 
 pub returns : goal.returns
-returns c = sym (turns_end _ _ _ (omega (arith, c.loop-left-test.false))) ∙ c.loop-left.invariant.1
+returns c = sym (turns_end _ (c.args.turns - c.loop-i.i) _ (omega arith)) ∙ c.loop-i.invariant

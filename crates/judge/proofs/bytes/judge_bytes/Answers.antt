@@ -15,8 +15,9 @@ slice_bounds-number-end c = rows_count c.args.bytes.now (replicate 4096 0) c.row
 
 pub returns : goal.returns
 returns c =
-    let b = c.args.bytes.now in let both = bytes_says b c.number.result
+    let b = c.args.bytes.now in
+    bytes_says b c.number.result
     (c.number.ensures
     ∙ ap number_of (rows_front b (replicate 4096 0) c.rows_in-count.ensures)
     ∙ ap (λ (k : ℕ). number_of (rows_in b k)) (length-replicate {A = ℕ} 4096 0)
-    ∙ rows_number b) in record { number = both.0; meaning = both.1 }
+    ∙ rows_number b)

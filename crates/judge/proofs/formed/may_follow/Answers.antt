@@ -11,6 +11,6 @@ pub returns-then-is_begin : goal.returns-then-is_begin
 unfolding alternates
 returns-then-is_begin c = rw (sym c.is_begin.ensures ∙ c.if-is_begin.true)
 
-pub returns : goal.returns
+pub returns-else-is_begin : goal.returns-else-is_begin
 unfolding alternates
-returns c = rw (sym c.is_begin.ensures ∙ c.if-is_begin.false)
+returns-else-is_begin c = rw (sym c.is_begin.ensures ∙ c.if-is_begin.false)

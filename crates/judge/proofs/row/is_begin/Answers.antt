@@ -11,6 +11,6 @@ pub returns-then-told-eq1 : goal.returns-then-told-eq1
 unfolding begins
 returns-then-told-eq1 c = rw (← c.kind-told.ensures, eq-eqb _ _ c.if-told-eq1.true)
 
-pub returns : goal.returns
+pub returns-else-told-eq1 : goal.returns-else-told-eq1
 unfolding begins
-returns c = rw (← c.kind-told.ensures, ne_eqb _ _ c.if-told-eq1.false)
+returns-else-told-eq1 c = rw (← c.kind-told.ensures, ne_eqb _ _ c.if-told-eq1.false)

@@ -11,6 +11,6 @@ pub returns-then-bits-eq-BAND : goal.returns-then-bits-eq-BAND
 unfolding kind_of
 returns-then-bits-eq-BAND c = rw (eq-eqb _ _ c.if-bits-eq-BAND.true)
 
-pub returns : goal.returns
+pub returns-else-bits-eq-BAND : goal.returns-else-bits-eq-BAND
 unfolding kind_of
-returns c = rw (ne_eqb _ _ c.if-bits-eq-BAND.false)
+returns-else-bits-eq-BAND c = rw (ne_eqb _ _ c.if-bits-eq-BAND.false)

@@ -11,13 +11,12 @@ settles_first : SettlesFirst function
 settles_first = record { in_turn = refl }
 
 pub write_order-requires : goal.write_order-requires
-write_order-requires c = none_no _ _ c.settle-settled.ensures c.in-Accepted.is
+write_order-requires c = none_no _ _ c.settle.ensures c.in-Ok.is
 
-pub returns-in-Accepted : goal.returns-in-Accepted
-returns-in-Accepted c =
+pub returns-in-Ok : goal.returns-in-Ok
+returns-in-Ok c =
     let a = c.args in
-    let z = none_no _ _ c.settle-settled.ensures c.in-Accepted.is in let both = says_yes a.rows.now a.order.now z _ _ c.write_order.ensures in record { answer = both.0; order = both.1.0; meaning = both.1.1 }
+    says_yes a.rows.now a.order.now (none_no _ _ c.settle.ensures c.in-Ok.is) _ _ c.write_order.ensures
 
-pub returns : goal.returns
-returns c =
-    let a = c.args in let both = says_refused a.rows.now a.order.now c.settle-settled.result c.settle-settled.ensures c.in_default.not-Accepted in record { answer = both.0; order = both.1.0; meaning = both.1.1 }
+pub returns-in-Err : goal.returns-in-Err
+returns-in-Err c = says_refused c.args.rows.now c.args.order.now c.in-Err.fault c.in-Err.ensures

@@ -2,10 +2,12 @@ use native.Mathlib.Omega.{arith}
 use mathlib.Core.Path.{◌≡◌, sym, ap, ◌∙◌}
 use Prim.Native.Nat.{ℕ}
 use lib.ListN.{length}
+use Rattle.history.specs.History.{history_of}
+use Rattle.history.specs.Sweep.{missing as first_without}
 use Rattle.judging.specs.Rowwise.{Sweep, fresh_sweep, sweep_to}
 use Rattle.judging.proofs.Steps.{sweep_one}
 use Rattle.judging.proofs.Linked.{missing_is}
-use Rattle.judging.proofs.Loops.{sweeps_start, processor_in, sweeps_next, missing_step}
+use Rattle.judge.proofs.Sweeping.{missing_step}
 use Rattle.judge.proofs.sweep.first_missing.Goals as goal
 use Rattle.judge.specs.Frame.{KeepsLittle}
 use Rattle.judge.proofs.sweep.first_missing.Code.{function}
@@ -15,39 +17,30 @@ keeps_little = record { small = tt; inside = tt }
 
 pub loop-k-init : goal.loop-k-init
 unfolding fresh_sweep
-loop-k-init c = (c.requires, sweeps_start _ c.requires, sym (ap (λ (s : Sweep). s.missing) (sweep_one _)))
-
-pub bounds-begins-p : goal.bounds-begins-p
-bounds-begins-p c = let l = c.loop-k in processor_in _ l.invariant.0 l.k _ _ _ l.invariant.1 (omega arith) c.processor-p.ensures
-
-pub bounds-floors-p : goal.bounds-floors-p
-bounds-floors-p c = let l = c.loop-k in processor_in _ l.invariant.0 l.k _ _ _ l.invariant.1 (omega arith) c.processor-p.ensures
-
-pub bounds-floors-p-in-loop-k : goal.bounds-floors-p-in-loop-k
-bounds-floors-p-in-loop-k c =
-    let l = c.loop-k in
-    processor_in _ l.invariant.0 l.k _ _ _ l.invariant.1 (omega arith) c.processor-p.ensures
-
-pub bounds-begins-p-in-loop-k : goal.bounds-begins-p-in-loop-k
-bounds-begins-p-in-loop-k c =
-    let l = c.loop-k in
-    processor_in _ l.invariant.0 l.k _ _ _ l.invariant.1 (omega arith) c.processor-p.ensures
+loop-k-init c = (c.requires, c.new-sweep.ensures.swept _ c.requires, sym (ap (λ (s : Sweep). s.missing) (sweep_one _)))
 
 pub loop-k-preserved : goal.loop-k-preserved
 loop-k-preserved c =
     let l = c.loop-k in
-    let r = c.args.rows.now in
-    let p = c.processor-p.ensures in
-    let q = c.row_place-q.ensures in (
-      l.invariant.0,
-      sweeps_next r l.invariant.0 l.k _ _ _ l.invariant.1 (omega arith) p q c.open_after.ensures c.floor_after.ensures
-          c.larger-top.ensures,
-      missing_step r l.invariant.0 l.k _ _ _ l.invariant.1 (omega arith) p q l.invariant.2 c.missing_after-missing.ensures,
+    let w = l.invariant.0 in
+    let S = l.invariant.1 in
+    let f = c.pass-found in (
+      w,
+      f.ensures.next w (omega arith) S,
+      missing_step _ w l.k _ S (omega arith) f.result (f.ensures.found w (omega arith) S) l.invariant.2 c.missing_after-missing.ensures,
     )
 
-pub returns : goal.returns
-returns c =
+pub returns-then-missing-rows : goal.returns-then-missing-rows
+returns-then-missing-rows c =
     let l = c.loop-k in
     let r = c.args.rows.now in
     let e : l.k ≡ length r = omega arith in
-    l.invariant.2 ∙ ap (λ (k : ℕ). (sweep_to r k).missing) e ∙ missing_is r l.invariant.0
+    (l.invariant.2 ∙ ap (λ (k : ℕ). (sweep_to r k).missing) e ∙ missing_is r l.invariant.0, c.if-missing-rows.true)
+
+pub returns-else-missing-rows : goal.returns-else-missing-rows
+returns-else-missing-rows c =
+    let l = c.loop-k in
+    let r = c.args.rows.now in
+    let e : l.k ≡ length r = omega arith in
+    let m : l.missing ≡ first_without (history_of r) = l.invariant.2 ∙ ap (λ (k : ℕ). (sweep_to r k).missing) e ∙ missing_is r l.invariant.0 in
+    omega arith

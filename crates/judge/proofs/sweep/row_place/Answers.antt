@@ -12,14 +12,14 @@ keeps_little = record { small = tt; inside = tt }
 pub returns-then-rows-k : goal.returns-then-rows-k
 returns-then-rows-k c = place_outside c.args.rows.now _ _ _ (omega arith)
 
-pub returns-then-told-eq2 : goal.returns-then-told-eq2
+pub returns-in-2 : goal.returns-in-2
 unfolding place_row
-returns-then-told-eq2 c = rw (← c.kind-told.ensures, c.if-told-eq2.true)
+returns-in-2 c = rw (← c.kind.ensures, c.in-2.is)
 
-pub returns-then-told-eq4 : goal.returns-then-told-eq4
+pub returns-in-4 : goal.returns-in-4
 unfolding place_row
-returns-then-told-eq4 c = rw (← c.kind-told.ensures, c.if-told-eq4.true) c.seek.ensures
+returns-in-4 c = rw (← c.kind.ensures, c.in-4.is) c.seek.ensures
 
-pub returns : goal.returns
+pub returns-in_default : goal.returns-in_default
 unfolding place_row
-returns c = rw (← c.kind-told.ensures, ne_eqb _ _ c.if-told-eq2.false, ne_eqb _ _ c.if-told-eq4.false)
+returns-in_default c = rw (← c.kind.ensures, ne_eqb c.kind.result 2 (omega arith), ne_eqb c.kind.result 4 (omega arith))

@@ -1,5 +1,5 @@
 use native.Mathlib.Omega.{arith}
-use mathlib.Core.Path.{refl, sym, ◌∙◌}
+use mathlib.Core.Path.{◌≡◌, sym, ◌∙◌}
 use Rattle.history.proofs.Search.{first_hit, first_miss, first_end}
 use Rattle.judge.proofs.sweep.seek.Goals as goal
 use Rattle.judge.specs.Frame.{KeepsLittle}
@@ -8,29 +8,16 @@ use Rattle.judge.proofs.sweep.seek.Code.{function}
 keeps_little : KeepsLittle function
 keeps_little = record { small = tt; inside = tt }
 
-pub loop-q-init : goal.loop-q-init
-loop-q-init c = (omega arith, refl)
-
-pub is_source-requires : goal.is_source-requires
-is_source-requires c = (omega arith, omega arith)
-
 pub returns-then-is_source : goal.returns-then-is_source
 returns-then-is_source c =
-    sym (c.loop-q.invariant.1
-    ∙ first_hit _ _ _ (omega arith) (sym c.is_source.ensures ∙ c.if-is_source.true))
-
-pub overflow_add-q : goal.overflow_add-q
-overflow_add-q c = omega arith
-
-pub loop-q-smaller : goal.loop-q-smaller
-loop-q-smaller c = omega arith
+    sym (c.loop-q.invariant.1 ∙ first_hit _ _ _ (omega arith) (sym c.is_source.ensures ∙ c.if-is_source.true))
 
 pub loop-q-preserved : goal.loop-q-preserved
-loop-q-preserved c = (
-  omega arith,
-  c.loop-q.invariant.1
-      ∙ first_miss _ _ _ (omega arith) (sym c.is_source.ensures ∙ c.if-is_source.false),
-)
+loop-q-preserved c =
+    (omega arith, c.loop-q.invariant.1 ∙ first_miss _ _ _ (omega arith) (sym c.is_source.ensures ∙ c.if-is_source.false))
 
 pub returns : goal.returns
-returns c = sym (c.loop-q.invariant.1 ∙ first_end _ _ _ (omega arith))
+returns c =
+    let q = c.loop-q in
+    let e : c.larger.result ≡ q.q = omega arith in
+    e ∙ sym (q.invariant.1 ∙ first_end _ _ _ (omega arith))

@@ -1,8 +1,6 @@
 use Prim.Native.Nat.{ℕ, ◌-◌, ◌*◌, ◌^◌, ◌≤◌, ◌<◌}
 use native.Mathlib.Omega.{arith}
 use native.Mathlib.Nat.{mul-le-mul}
-use Rattle.counted.specs.Table.{row_start}
-use borrow.Author.Tests.{eq-eqb, ne_eqb}
 use Rattle.parts.proofs.places.row_start.Goals as goal
 
 -- a product of two 32-bit numbers fits, with a third behind it
@@ -11,14 +9,6 @@ start_low n i h g =
     let x : i - 1 ≤ 4294967294 = omega arith in
     let y : n - 1 ≤ 4294967294 = omega arith in
     mul-le-mul x y
-
-pub returns-then-i-eq0 : goal.returns-then-i-eq0
-unfolding row_start
-returns-then-i-eq0 c = rw (eq-eqb _ 0 c.if-i-eq0.true)
-
-pub returns-then-n-eq0 : goal.returns-then-n-eq0
-unfolding row_start
-returns-then-n-eq0 c = rw (ne_eqb _ 0 c.if-i-eq0.false, c.if-n-eq0.true) (omega arith)
 
 pub overflow_mul-result : goal.overflow_mul-result
 overflow_mul-result c =
@@ -31,7 +21,3 @@ overflow_add-result c =
     let a = c.args in
     let f = c.ranges in
     omega (arith, start_low a.n a.i f.n.fits f.i.fits, f.n.fits)
-
-pub returns : goal.returns
-unfolding row_start
-returns c = rw (ne_eqb _ 0 c.if-i-eq0.false)

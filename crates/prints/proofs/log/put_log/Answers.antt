@@ -1,5 +1,7 @@
-use Rattle.prints.proofs.Texts.{log_is}
+use Rattle.printing.specs.Print.{log_print}
+use Rattle.lines.proofs.Adds.{then_adds}
 use Rattle.prints.proofs.log.put_log.Goals as goal
 
 pub returns : goal.returns
-returns c = log_is _ _ _ c.put_readers-listed.ensures c.put_rows-end.ensures c.put_verdict.ensures
+unfolding log_print
+returns c = then_adds (then_adds c.put_readers.ensures c.list_rows.ensures) c.put_verdict.ensures

@@ -1,12 +1,8 @@
-use Prim.Native.Nat.{◌-◌}
+use Rattle.std.proofs.Common.{take}
 use mathlib.Core.List.{flat_map}
-use lib.ListN.{length, take}
-use Rattle.lines.specs.Lines.{Puts}
+use Rattle.lines.specs.Adds.{Adds}
 use Rattle.prints.specs.Words.{refusal_text}
 use Rattle.prints.proofs.refusals.put_refusals.Given as goal
 
-abbrev pub invariant-loop-i : goal.invariant-loop-i
-invariant-loop-i l = Puts (flat_map refusal_text (take l.i l.answers)) l.at l.initial.out l.out l.end
-
-abbrev pub decreases-loop-i : goal.decreases-loop-i
-decreases-loop-i l = length l.answers - l.i
+abbrev pub invariant-loop-answer : goal.invariant-loop-answer
+invariant-loop-answer l = Adds (flat_map refusal_text (take l.answer-index l.answers)) l.initial.out l.out

@@ -1,6 +1,7 @@
-use Rattle.prints.proofs.SheetTexts.{figures_is}
+use Rattle.printing.specs.Sheet.{figures_text}
+use Rattle.lines.proofs.Adds.{then_adds}
 use Rattle.prints.proofs.sheet.put_figures.Goals as goal
 
 pub returns : goal.returns
-returns c =
-    figures_is c.args.figures c.put_readers-end.ensures c.put_text-all.ensures c.put_end.ensures
+unfolding figures_text
+returns c = then_adds (then_adds c.put_readers.ensures c.put_text.ensures) c.put_end.ensures

@@ -1,6 +1,7 @@
-use Rattle.prints.proofs.SheetTexts.{reader_is}
+use Rattle.printing.specs.Sheet.{reader_line}
+use Rattle.lines.proofs.Adds.{then_adds}
 use Rattle.prints.proofs.sheet.put_reader.Goals as goal
 
 pub returns : goal.returns
-returns c =
-    reader_is _ _ _ c.put_text-number.ensures c.put_number-end.ensures c.put_end.ensures
+unfolding reader_line
+returns c = then_adds (then_adds c.put_text.ensures c.put_number.ensures) c.put_end.ensures

@@ -1,18 +1,13 @@
-use mathlib.Core.Path.{subst}
-use Rattle.judging.specs.declared.Verdict.{Verdict}
-use Rattle.judging.specs.declared.Verdict.TheVariants.{Accepted}
-use Rattle.prints.specs.Said.{Fits, said_line}
-use Rattle.prints.proofs.Verdicts.{as_told, not_accepted}
+use Rattle.prints.specs.Said.{said_line}
 use Rattle.prints.proofs.verdict.put_said.Goals as goal
 
 pub slice_bounds-put_order-end : goal.slice_bounds-put_order-end
-slice_bounds-put_order-end c =
-    (subst (λ (w : Verdict). Fits w c.args.places.now) c.in-Accepted.is c.requires).1
+slice_bounds-put_order-end c = (rw c.in-Ok.is at c.requires).1
 
-pub returns-in-Accepted : goal.returns-in-Accepted
+pub returns-in-Ok : goal.returns-in-Ok
 unfolding said_line
-returns-in-Accepted c = as_told _ (Accepted _) _ c.in-Accepted.is c.put_order.ensures
+returns-in-Ok c = rw c.in-Ok.is c.put_order.ensures
 
-pub returns : goal.returns
-returns c =
-    not_accepted _ c.args.places.now c.in_default.not-Accepted c.put_refusal.ensures
+pub returns-in-Err : goal.returns-in-Err
+unfolding said_line
+returns-in-Err c = rw c.in-Err.is c.put_refusal.ensures

@@ -1,14 +1,25 @@
+use Rattle.std.proofs.lemmas.Grind.{common_steps}
 use Rattle.common.specs.Rules.{state_ok}
 use Rattle.questions.proofs.Laws.{many_readers}
 use native.Mathlib.Omega.{arith}
 use Rattle.questions.proofs.range.state_ok.Goals as goal
+use Rattle.questions.proofs.range.state_ok.Goals.{then-head_ok, else-head_ok}
 
-pub overflow_cast-h : goal.overflow_cast-h
-overflow_cast-h c = omega (arith, c.if-h-le16.true)
+pub returns-then-h-gt16 : goal.returns-then-h-gt16
+returns-then-h-gt16 g c = many_readers _ c.args.s _ _ (omega arith)
 
-pub returns-then-h-le16 : goal.returns-then-h-le16
+pub returns-then-writer_ok : goal.returns-then-writer_ok
 unfolding state_ok
-returns-then-h-le16 c = rw (c.head_ok-head.ensures, c.cells_of-need.ensures, c.open_in.ensures, c.writer_ok-writer.ensures, c.readers_ok-readers.ensures)
+returns-then-writer_ok g c =
+    elim c.if-head_ok.branch [
+      | then-head_ok w ↦ grind (arith, common_steps)
+      | else-head_ok w ↦ grind (arith, common_steps)
+    ]
 
-pub returns : goal.returns
-returns c = many_readers _ c.args.s _ _ c.if-h-le16.false
+pub returns-else-writer_ok : goal.returns-else-writer_ok
+unfolding state_ok
+returns-else-writer_ok g c =
+    elim c.if-head_ok.branch [
+      | then-head_ok w ↦ grind (arith, common_steps)
+      | else-head_ok w ↦ grind (arith, common_steps)
+    ]

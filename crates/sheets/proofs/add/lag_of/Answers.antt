@@ -14,5 +14,5 @@ overflow_sub-result c = omega (arith, c.requires (sym c.kind.ensures ∙ c.if-ki
 pub returns-then-kind-eq4 : goal.returns-then-kind-eq4
 returns-then-kind-eq4 c = rw (← c.kind.ensures, eq-eqb _ _ c.if-kind-eq4.true)
 
-pub returns : goal.returns
-returns c = rw (← c.kind.ensures, ne_eqb _ _ c.if-kind-eq4.false)
+pub returns-else-kind-eq4 : goal.returns-else-kind-eq4
+returns-else-kind-eq4 c = rw (← c.kind.ensures, ne_eqb _ _ c.if-kind-eq4.false)

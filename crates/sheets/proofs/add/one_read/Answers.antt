@@ -9,5 +9,5 @@ keeps_little = record { small = tt; inside = tt }
 pub returns-then-kind-eq4 : goal.returns-then-kind-eq4
 returns-then-kind-eq4 c = rw (← c.kind.ensures, eq-eqb _ _ c.if-kind-eq4.true)
 
-pub returns : goal.returns
-returns c = rw (← c.kind.ensures, ne_eqb _ _ c.if-kind-eq4.false)
+pub returns-else-kind-eq4 : goal.returns-else-kind-eq4
+returns-else-kind-eq4 c = rw (← c.kind.ensures, ne_eqb _ _ c.if-kind-eq4.false)

@@ -11,7 +11,7 @@ keeps_little : KeepsLittle function
 keeps_little = record { small = tt; inside = tt }
 
 pub loop-j-init : goal.loop-j-init
-loop-j-init c = (omega arith, omega arith, omega arith, c.requires.1)
+loop-j-init c = (omega arith, c.requires.1)
 
 pub with_write-n-requires : goal.with_write-n-requires
 with_write-n-requires c =
@@ -21,11 +21,11 @@ with_write-n-requires c =
 pub loop-j-preserved : goal.loop-j-preserved
 loop-j-preserved c =
     let l = c.loop-j in
-    (omega arith, omega arith, omega arith, c.with_write-n.ensures ∙ rw l.invariant.3 (sym (rank_suc _ l.j)))
+    (omega arith, c.with_write-n.ensures ∙ rw l.invariant.1 (sym (rank_suc _ l.j)))
 
 pub returns : goal.returns
 returns c =
     let l = c.loop-j in
     let a = c.args in
     let e : l.j ≡ max a.f a.q = omega arith in
-    l.invariant.3 ∙ ap (rank_of a.rows.now) e
+    l.invariant.1 ∙ ap (rank_of a.rows.now) e

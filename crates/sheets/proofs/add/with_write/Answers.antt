@@ -11,6 +11,6 @@ pub returns-then-kind-eq1 : goal.returns-then-kind-eq1
 unfolding with_write
 returns-then-kind-eq1 c = rw (← c.kind.ensures, eq-eqb _ _ c.if-kind-eq1.true)
 
-pub returns : goal.returns
+pub returns-else-kind-eq1 : goal.returns-else-kind-eq1
 unfolding with_write
-returns c = rw (← c.kind.ensures, ne_eqb _ _ c.if-kind-eq1.false)
+returns-else-kind-eq1 c = rw (← c.kind.ensures, ne_eqb _ _ c.if-kind-eq1.false)

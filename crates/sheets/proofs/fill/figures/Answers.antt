@@ -11,16 +11,13 @@ pub bounds-rows-0 : goal.bounds-rows-0
 bounds-rows-0 c =
     omega (arith, (log_formed c.args.rows.now c.requires).size.some)
 
-pub over_readers-requires : goal.over_readers-requires
-over_readers-requires c =
+pub over_readers-total-requires : goal.over_readers-total-requires
+over_readers-total-requires c =
     let r = c.args.rows.now in
-    (few r c.requires c.lines-lines.ensures c.processor-n.ensures, (small r c.requires c.lines-lines.ensures c.processor-n.ensures).0)
-
-pub over_readers-requires-2 : goal.over_readers-requires-2
-over_readers-requires-2 c =
-    let r = c.args.rows.now in
-    (few r c.requires c.lines-lines.ensures c.processor-n.ensures, (small r c.requires c.lines-lines.ensures c.processor-n.ensures).1)
+    let b = small r c.requires c.lines-lines.ensures c.processor-n.ensures in
+    (few r c.requires c.lines-lines.ensures c.processor-n.ensures, b.0, b.1)
 
 pub returns : goal.returns
 returns c =
-    figures_are c.args.rows.now c.requires c.lines-lines.ensures c.processor-n.ensures c.over_readers.ensures c.over_readers-2.ensures
+    let t = c.over_readers-total.ensures in
+    figures_are c.args.rows.now c.requires c.lines-lines.ensures c.processor-n.ensures t.reads t.lags

@@ -1,5 +1,5 @@
 use Rattle.judging.proofs.Said.{none_no}
-use Rattle.lags.proofs.Meaning.{says_filled, says_blank}
+use Rattle.lags.proofs.Meaning.{says_filled, says_none}
 use Rattle.sheets.proofs.rows.sheet.Goals as goal
 use Rattle.sheets.specs.Frame.{KeepsLittle}
 use Rattle.sheets.proofs.rows.sheet.Code.{function}
@@ -7,15 +7,11 @@ use Rattle.sheets.proofs.rows.sheet.Code.{function}
 keeps_little : KeepsLittle function
 keeps_little = record { small = tt; inside = tt }
 
-pub figures-found-requires : goal.figures-found-requires
-figures-found-requires c = none_no _ _ c.settle-verdict.ensures c.in-Accepted.is
+pub figures-requires : goal.figures-requires
+figures-requires c = none_no _ _ c.settle.ensures c.in-Ok.is
 
-pub returns-in-Accepted : goal.returns-in-Accepted
-returns-in-Accepted c =
-    let said = says_filled c.args.rows.now c.settle-verdict.ensures c.in-Accepted.is c.figures-found.ensures in
-    record { answer = said.0; figures = said.1.0; meaning = said.1.1 }
+pub returns-in-Ok : goal.returns-in-Ok
+returns-in-Ok c = says_filled c.args.rows.now (none_no _ _ c.settle.ensures c.in-Ok.is) c.figures.ensures
 
-pub returns : goal.returns
-returns c =
-    let said = says_blank c.args.rows.now c.settle-verdict.ensures c.in_default.not-Accepted c.no_figures-none.ensures in
-    record { answer = said.0; figures = said.1.0; meaning = said.1.1 }
+pub returns-in-Err : goal.returns-in-Err
+returns-in-Err c = says_none c.args.rows.now c.in-Err.fault c.in-Err.ensures

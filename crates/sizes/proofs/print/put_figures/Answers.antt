@@ -1,8 +1,9 @@
-use Rattle.figures.specs.declared.Sizing.TheVariants.{Sized}
-use Rattle.sizes.proofs.Texts.{figures_are}
+use Rattle.printing.specs.Sizing.{figures_line}
+use Rattle.lines.proofs.Adds.{then_adds}
 use Rattle.sizes.proofs.print.put_figures.Goals as goal
 
 pub returns : goal.returns
+unfolding figures_line
 returns c =
-    figures_are _ (Sized _) c.put_text-named.ensures c.put_text-rows.ensures c.put_number-rows_end.ensures c.put_text-least.ensures c.put_number-least_end.ensures
+    then_adds (then_adds (then_adds (then_adds (then_adds c.put_text.ensures c.put_text-2.ensures) c.put_number.ensures) c.put_text-3.ensures) c.put_number-2.ensures)
     c.put_line.ensures

@@ -12,17 +12,17 @@ word_from-word-requires c =
 pub returns-then-m-n : goal.returns-then-m-n
 returns-then-m-n c =
     let a = c.args in
-    rw (c.moves_on.ensures, c.larger_of-result.ensures, c.word_from-word.ensures, c.other_reader-q.ensures)
+    rw (c.moves_on.ensures, c.larger_of.ensures, c.word_from-word.ensures, c.other_reader-q.ensures)
     (read_looks a.n a.p a.r a.table.now c.if-m-n.true)
 
 pub returns-then-m-n-2 : goal.returns-then-m-n-2
 returns-then-m-n-2 c =
     let a = c.args in
-    rw (c.moves_on-then-m-n-2.ensures, c.larger_of-result-then-m-n-2.ensures, c.word_from-word-then-m-n-2.ensures)
+    rw (c.moves_on-then-m-n-2.ensures, c.larger_of-then-m-n-2.ensures, c.word_from-word-then-m-n-2.ensures)
     (read_last a.n a.p a.r a.table.now c.if-m-n.false c.if-m-n-2.true)
 
-pub store_cell-requires : goal.store_cell-requires
-store_cell-requires c =
+pub store_word-requires : goal.store_word-requires
+store_word-requires c =
     let a = c.args in
     let p = c.requires in
     rw c.other_reader-q-2.ensures
@@ -31,5 +31,5 @@ store_cell-requires c =
 pub returns : goal.returns
 returns c =
     let a = c.args in
-    rw (c.moves_on-2.ensures, c.store_cell.ensures, c.unpack-c.ensures, c.other_reader-q-2.ensures)
+    rw (c.moves_on-2.ensures, c.store_word.ensures, c.from-2.ensures, c.from.ensures, c.other_reader-q-2.ensures)
     (read_stores a.n a.p a.r a.table.now c.if-m-n.false c.if-m-n-2.false)

@@ -4,9 +4,9 @@ use Rattle.steps.proofs.counting.write_step.Goals as goal
 pub returns-then-moved-n : goal.returns-then-moved-n
 returns-then-moved-n c =
     let a = c.args in
-    rw c.store_cell.ensures (write_goes a.n a.w a.table.now c.if-moved-n.true)
+    rw (c.store_word.ensures, c.from.ensures) (write_goes a.n a.w a.table.now c.if-moved-n.true)
 
 pub returns : goal.returns
 returns c =
     let a = c.args in
-    rw c.store_cell.ensures (write_ends a.n a.w a.table.now c.if-moved-n.false)
+    rw (c.store_word.ensures, c.from.ensures) (write_ends a.n a.w a.table.now c.if-moved-n.false)

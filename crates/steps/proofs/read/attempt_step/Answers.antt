@@ -8,23 +8,23 @@ use Rattle.steps.proofs.read.attempt_step.Goals as goal
 pub returns-then-l-eq0 : goal.returns-then-l-eq0
 returns-then-l-eq0 c =
     let a = c.args in
-    rw (c.looks_first.ensures, c.word_from-word.ensures, c.count_word-next.ensures)
+    rw (c.looks_first.ensures, c.word_from.ensures, c.count_word-next.ensures)
     (try_first a.n a.p a.l a.r a.table.now c.if-l-eq0.true)
 
 pub returns-then-l-eq1 : goal.returns-then-l-eq1
 returns-then-l-eq1 c =
     let a = c.args in
-    rw (c.count_word-next.ensures, c.store_cell.ensures, c.announcement-c.ensures)
+    rw (c.count_word-next.ensures, c.store_word.ensures, c.from.ensures, c.announcement-c.ensures)
     (try_announce a.n a.p a.l a.r a.table.now c.if-l-eq0.false c.if-l-eq1.true)
 
 pub returns-then-l-eq2 : goal.returns-then-l-eq2
 returns-then-l-eq2 c =
     let a = c.args in
-    rw (c.looks_again.ensures, c.word_from-word-then-l-eq2.ensures, c.count_word-next.ensures)
+    rw (c.looks_again.ensures, c.word_from-then-l-eq2.ensures, c.count_word-next.ensures)
     (try_again a.n a.p a.l a.r a.table.now c.if-l-eq0.false c.if-l-eq1.false c.if-l-eq2.true)
 
-pub word_from-word-requires-then-l-n : goal.word_from-word-requires-then-l-n
-word_from-word-requires-then-l-n c =
+pub word_from-requires-then-l-n : goal.word_from-requires-then-l-n
+word_from-requires-then-l-n c =
     let a = c.args in
     let p = c.requires in
     let o = other_valid a.n a.p (a.l - 3) p.1.p_low p.1.p_high (omega (arith, c.if-l-n.true, c.if-l-eq2.false, c.if-l-eq1.false, c.if-l-eq0.false)) in
@@ -33,11 +33,11 @@ word_from-word-requires-then-l-n c =
 pub returns-then-l-n : goal.returns-then-l-n
 returns-then-l-n c =
     let a = c.args in
-    rw (c.looks_at_other.ensures, c.word_from-word-then-l-n.ensures, c.other_reader-q.ensures, c.count_word-next.ensures)
+    rw (c.looks_at_other.ensures, c.word_from-then-l-n.ensures, c.other_reader-q.ensures, c.count_word-next.ensures)
     (try_other a.n a.p a.l a.r a.table.now c.if-l-eq0.false c.if-l-eq1.false c.if-l-eq2.false c.if-l-n.true)
 
 pub returns : goal.returns
 returns c =
     let a = c.args in
-    rw (c.looks_third.ensures, c.word_from-word-2.ensures, c.count_word-next.ensures)
+    rw (c.looks_third.ensures, c.word_from-2.ensures, c.count_word-next.ensures)
     (try_third a.n a.p a.l a.r a.table.now c.if-l-eq0.false c.if-l-eq1.false c.if-l-eq2.false c.if-l-n.false)

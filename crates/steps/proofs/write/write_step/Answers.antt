@@ -9,5 +9,5 @@ returns-then-w-n c =
 pub returns : goal.returns
 returns c =
     let a = c.args in
-    rw (c.stored.ensures, c.store_cell.ensures, c.no_stamp-none.ensures, c.ticket_of-ticket.ensures)
+    rw (c.stored.ensures, c.store_word.ensures, c.from.ensures, c.no_stamp.ensures, c.ticket_of-ticket.ensures)
     (write_stores a.n a.w a.table.now c.if-w-n.false)

@@ -23,15 +23,15 @@ pub bounds-bytes-k : goal.bounds-bytes-k
 bounds-bytes-k c = byte_in c.loop-k.invariant (omega arith)
 
 pub bounds-next-p : goal.bounds-next-p
-bounds-next-p c = c.wide-p.ensures.1
+bounds-next-p c = omega arith
 
-pub offset_bounds-rows-at : goal.offset_bounds-rows-at
-offset_bounds-rows-at c =
+pub offset_bounds-rows-next : goal.offset_bounds-rows-next
+offset_bounds-rows-next c =
     let l = c.loop-k in
-    omega (arith, l.invariant.few, place_in l.invariant (omega arith) c.wide-p.ensures.0 c.wide-p.ensures.1)
+    omega (arith, l.invariant.few, place_in l.invariant (omega arith) c.from-p.ensures (omega arith))
 
-pub bounds-rows-at : goal.bounds-rows-at
-bounds-rows-at c = place_in c.loop-k.invariant (omega arith) c.wide-p.ensures.0 c.wide-p.ensures.1
+pub bounds-rows-next : goal.bounds-rows-next
+bounds-rows-next c = place_in c.loop-k.invariant (omega arith) c.from-p.ensures (omega arith)
 
 pub bounds-log-k : goal.bounds-log-k
 bounds-log-k c = let l = c.loop-k in omega (arith, l.invariant.same_length, l.invariant.room)
@@ -39,13 +39,13 @@ bounds-log-k c = let l = c.loop-k in omega (arith, l.invariant.same_length, l.in
 pub overflow_add-next : goal.overflow_add-next
 overflow_add-next c =
     let l = c.loop-k in
-    omega (arith, l.invariant.few, place_in l.invariant (omega arith) c.wide-p.ensures.0 c.wide-p.ensures.1)
+    omega (arith, l.invariant.few, place_in l.invariant (omega arith) c.from-p.ensures (omega arith))
 
 pub bounds-next-p-in-loop-k : goal.bounds-next-p-in-loop-k
-bounds-next-p-in-loop-k c = c.wide-p.ensures.1
+bounds-next-p-in-loop-k c = omega arith
 
 pub loop-k-preserved : goal.loop-k-preserved
-loop-k-preserved c = one_put c.loop-k.invariant (omega arith) c.wide-p.ensures.0 c.wide-p.ensures.1
+loop-k-preserved c = one_put c.loop-k.invariant (omega arith) c.from-p.ensures (omega arith)
 
 pub shape_of-log : goal.shape_of-log
 shape_of-log c =

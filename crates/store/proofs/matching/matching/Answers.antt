@@ -20,12 +20,12 @@ all_of-requires c =
     let l = c.loop-at in
     omega (arith, c.count-c.ensures, agreed_room b _ k _ _ l.invariant)
 
-pub returns-else-all_of : goal.returns-else-all_of
-returns-else-all_of c =
+pub returns-then-not-all_of : goal.returns-then-not-all_of
+returns-then-not-all_of c =
     let b = c.args.bytes.now in
     let k : (i : ℕ) → i < length b → get_or b i 0 < 256 = λ i _. (c.shared_slice_known-1.given i).fits in
     let l = c.loop-at in
-    agreed_not b _ k _ _ l.invariant (agreed_less b _ k _ _ l.invariant (omega arith)) (all_of_is c.count-c.ensures c.if-all_of.false c.all_of.ensures)
+    agreed_not b _ k _ _ l.invariant (agreed_less b _ k _ _ l.invariant (omega arith)) (all_of_is c.count-c.ensures c.if-not-all_of.true c.all_of.ensures)
 
 pub overflow_add-at : goal.overflow_add-at
 overflow_add-at c =
@@ -48,7 +48,7 @@ loop-at-preserved c =
     let l = c.loop-at in
     let n = c.count-c.ensures in
     rw n
-    (agreed_next b _ k _ _ l.invariant (agreed_less b _ k _ _ l.invariant (omega arith)) (all_of_is n c.if-all_of.true c.all_of.ensures))
+    (agreed_next b _ k _ _ l.invariant (agreed_less b _ k _ _ l.invariant (omega arith)) (all_of_is n c.if-not-all_of.false c.all_of.ensures))
 
 pub returns : goal.returns
 returns c =

@@ -1,6 +1,0 @@
-use Rattle.std.proofs.Common.{ℕ, sym}
-use Rattle.std.proofs.Math.ListN.{length-replicate}
-use Rattle.drill.proofs.print_bytes.Goals as goal
-
-pub returns : goal.returns
-returns c = sym (length-replicate {A = ℕ} 2097152 0)

@@ -1,0 +1,13 @@
+use Rattle.std.proofs.Common.{arith}
+use Rattle.std.proofs.lemmas.Grind.{common_steps}
+use Rattle.lines.specs.Lines.{reader_text}
+use Rattle.lines.proofs.Adds.{no_text}
+use Rattle.lines.proofs.Sink.put_reader.Goals as goal
+
+pub returns-then-matches : goal.returns-then-matches
+unfolding reader_text
+returns-then-matches c = grind (arith, common_steps)
+
+pub returns-else-matches : goal.returns-else-matches
+unfolding reader_text
+returns-else-matches c = grind (arith, common_steps, no_text)

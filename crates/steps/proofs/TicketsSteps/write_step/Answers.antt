@@ -1,0 +1,6 @@
+use Rattle.std.proofs.Common.{rules}
+use Rattle.steps.proofs.Laws.{write_in}
+use Rattle.steps.proofs.TicketsSteps.write_step.Goals as goal
+
+pub write_step-requires : goal.write_step-requires
+write_step-requires c = let a = c.args in (search rules, search (rules, write_in a.n a.w))
