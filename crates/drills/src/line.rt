@@ -9,7 +9,8 @@ ghost use Rattle.drills.specs.Words.{turn_words, word_letter, word_letters, numb
 use lines::Sink;
 use prints::verdict::put_verdict;
 
-// Calls as words, the kind above and the number below: a write of 0 begins, reader 1's read begins, a sub-step of processor 0.
+// Words, as `lists::run` takes them for C, the kind above and the number below: a write of 0 begins, reader 1's read begins, a sub-step of
+// processor 0.
 const WRITE: u64 = 4294967296;
 
 const READ: u64 = 8589934593;

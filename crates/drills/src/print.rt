@@ -47,7 +47,7 @@ pub fn drill_print(bytes: &[u8], out: &mut [u8]) -> usize
     ensures within { Within result out.new }
     ensures whole { 2097152 ≤ length out.old → take result out.new ≡ drill_print bytes.now }
 {
-    let mut print = Sink { places: out, at: 0 };
+    let mut print = Sink::new(out);
     put_input(&mut print, bytes);
     print.at
 }

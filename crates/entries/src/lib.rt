@@ -22,7 +22,7 @@ fn store(state: &mut State, called: Called) -> u64
     answer_word(called.answer)
 }
 
-// The same of a set-up: if it is refused the lent state stays.
+// The same of a set-up. They differ in this: a refused call gives back what was lent, a refused set-up does not, so the lent state stays.
 fn store_set_up(state: &mut State, called: Called) -> u64
     ensures { (result ≡ answer_word called.answer) × (state.new ≡ unless_refused called.answer state.old called.state) }
 {

@@ -26,7 +26,7 @@ fn put_rows(out: &mut Sink, rows: &[u64])
 fn put_file(out: &mut Sink, bytes: &[u8], rows: &[u64])
     ensures { Adds (file_of bytes.now rows.now) out.old out.new }
 {
-    put_rows(out, &[bytes.len() as u64]);
+    out.put_text(&(bytes.len() as u64).to_be_bytes());
     out.put_text(bytes);
     put_rows(out, rows);
 }
@@ -38,7 +38,7 @@ fn put_stored(out: &mut [u8], rows: &[u64]) -> Result<usize, Fault>
     let mut bytes = [0u8; 4095];
     let mut strips = [0u64; 4096];
     store(rows, &mut bytes, &mut strips)?;
-    let mut file = Sink { places: out, at: 0 };
+    let mut file = Sink::new(out);
     put_file(&mut file, &bytes[..rows.len() - 1], &strips[..rows.len()]);
     Ok(file.at)
 }
@@ -88,7 +88,7 @@ fn put_restored(out: &mut [u8], bytes: &[u8], rest: &[u8]) -> Result<usize, Faul
     let n = rows_in(rest, &mut rows);
     let mut log = [0u64; 4096];
     restore(bytes, &rows[..n], &mut log)?;
-    let mut made = Sink { places: out, at: 0 };
+    let mut made = Sink::new(out);
     put_rows(&mut made, &log[..n]);
     Ok(made.at)
 }

@@ -33,8 +33,8 @@ fn count_begins(rows: &[u64]) -> usize
     ensures { result ≡ begins_to rows.now (length rows.now) }
 {
     let mut n = 0;
-    for k in 1..rows.len() {
-        n = count_after(rows[k], n);
+    for row in &rows[1..] {
+        n = count_after(*row, n);
     }
     n
 }

@@ -16,6 +16,15 @@ pub struct Lent<'a, T> {
 }
 
 impl<'a, T: Copy> Lent<'a, T> {
+    // Nothing has been put yet.
+    pub fn new(places: &'a mut [T]) -> Lent<'a, T>
+        ensures same_reference { result.places.ghost_name ≡ places.entry.ghost_name }
+        ensures places { result.places.now ≡ places.old }
+        ensures at { result.at ≡ 0 }
+    {
+        Lent { places, at: 0 }
+    }
+
     // One item.
     pub fn put(&mut self, item: T)
         ensures { Adds (item ∷ []) self.old self.new }

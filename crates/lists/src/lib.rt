@@ -29,7 +29,8 @@ pub struct Made {
     pub state: State,
 }
 
-// What a run gives: set-up's answer, and its calls.
+// What a run gives: set-up's answer, and its calls. As in a `Called`, the answer stands beside the state: the state comes back, refused or
+// not.
 #[derive(Clone, Copy, Debug, PartialEq, Eq)]
 pub struct Ran {
     pub answer: Result<Done, Refusal>,
@@ -98,7 +99,8 @@ fn run_of<P: Protocol>(
 
 // Set-up, and then the calls in the words, with their answers; no call if set-up is refused. A word's upper half is the call's kind, 1
 // begin a write, 2 begin a read, 3 a sub-step, 4 retire a reader, and its lower half the number. An answer's upper half is the refusal
-// number, and its lower half the sub-step's. The calls end at the first word that is none, and where the answers have no place left.
+// number, and its lower half the sub-step's. The words are C's. The calls end at the first word that is none, and where the answers have no
+// place left.
 pub fn run(
     n: u32,
     value: u32,

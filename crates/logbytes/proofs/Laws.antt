@@ -9,8 +9,9 @@ use borrow.Author.Tests.{eq-eqb, ne_eqb, le-leb, lt-leb}
 use native.Mathlib.Numerals.{add-one}
 use lib.ListN.{length, take, drop, set, get_or}
 use native.Mathlib.Nat.{add-zero, add_assoc}
-use lib.Seq.{take-suc, drop-cons, set_at, drop-drop, get_or-drop}
-use Rattle.std.specs.Int.{w64, to_be_bytes}
+use lib.Seq.{take-suc, drop-cons, set_at, drop-drop, get_or-drop, get_or-take}
+use Rattle.std.specs.Int.{w64, to_be_bytes, from_be_bytes}
+use Rattle.std.specs.Simd.{first_chunks}
 use Rattle.words.specs.Bits.{low, field}
 use Rattle.words.proofs.Laws.Bits.{split_field}
 use Rattle.logbytes.specs.Bytes.{word_at, read_rows, rows_of, read_into, rows_in, bytes_of}
@@ -30,6 +31,32 @@ read_suc (suc k) b =
 
 word_behind : (b : List ℕ) (m : ℕ) → word_at (drop m b) 0 ≡ word_at b m
 word_behind b m = simp (get_or-drop, add-zero, add_assoc)
+
+-- the chunk of eight bytes at place i, and its word
+pub chunk_at : (k i : ℕ) (b z : List ℕ) → i < k → get_or (first_chunks 8 k b) i z ≡ take 8 (drop (i * 8) b)
+chunk_at zero i b z h = absurd (omega arith)
+chunk_at (suc k) zero b z h = refl
+chunk_at (suc k) (suc i) b z h =
+    let e : suc i * 8 ≡ 8 + i * 8 = omega arith in
+    chunk_at k i (drop 8 b) z (omega arith) ∙ rw e (ap (take 8) (drop-drop (i * 8) 8 b))
+
+word_front : (d : List ℕ) → word_at (take 8 d) 0 ≡ word_at d 0
+word_front d = rw (
+  get_or-take 8 d 0 0 (omega arith),
+  get_or-take 8 d 1 0 (omega arith),
+  get_or-take 8 d 2 0 (omega arith),
+  get_or-take 8 d 3 0 (omega arith),
+  get_or-take 8 d 4 0 (omega arith),
+  get_or-take 8 d 5 0 (omega arith),
+  get_or-take 8 d 6 0 (omega arith),
+  get_or-take 8 d 7 0 (omega arith),
+)
+
+be_word : (d : List ℕ) → from_be_bytes w64 d ≡ word_at d 0
+be_word d = omega arith
+
+pub chunk_word : (b : List ℕ) (p : ℕ) → from_be_bytes w64 (take 8 (drop p b)) ≡ word_at b p
+chunk_word b p = be_word (take 8 (drop p b)) ∙ word_front (drop p b) ∙ word_behind b p
 
 -- a list filled from the front, by one element more
 pub push : {A : Type 0} (p d : List A) (i : ℕ) (v : A) → length p ≡ i → i < length d

@@ -1,26 +1,16 @@
 // A log as bytes.
 #![tactic(auto)]
 
-ghost use Rattle.std.specs.Prelude.{◌++◌, ◌≡◌, ◌+◌, ◌^◌, ◌<◌, ◌≤◌, min, length, drop};
-ghost use Rattle.logbytes.specs.Bytes.{half_at, word_at, read_into, rows_in};
+ghost use Rattle.std.specs.Prelude.{◌++◌, ◌≡◌, ◌/◌, ◌≤◌, length, drop};
+ghost use Rattle.logbytes.specs.Bytes.{read_into, rows_in};
 
-// The word in the eight bytes from `at` on.
-fn word_at(bytes: &[u8], at: usize) -> u64
-    requires { at + 8 ≤ length bytes.now }
-    ensures { result ≡ word_at bytes.now at }
-{
-    let mut word = [0; 8];
-    word.copy_from_slice(&bytes[at..at + 8]);
-    u64::from_be_bytes(word)
-}
-
-// Reads as many whole rows as there are, and as there is room for.
+// Reads all whole rows.
 fn read_rows(bytes: &[u8], rows: &mut [u64])
+    requires { length bytes.now / 8 ≤ length rows.old }
     ensures { rows.new ≡ read_into bytes.now rows.old }
 {
-    let count = (bytes.len() / 8).min(rows.len());
-    for i in 0..count {
-        rows[i] = word_at(bytes, i * 8);
+    for (i, eight) in bytes.as_chunks::<8>().0.iter().enumerate() {
+        rows[i] = u64::from_be_bytes(*eight);
     }
 }
 

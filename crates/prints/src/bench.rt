@@ -92,7 +92,7 @@ pub fn bench_print(bytes: &[u8], out: &mut [u8]) -> usize
     ensures within { Within result out.new }
     ensures whole { 1048576 ≤ length out.old → take result out.new ≡ bench_print bytes.now }
 {
-    let mut print = Sink { places: out, at: 0 };
+    let mut print = Sink::new(out);
     put_input(&mut print, bytes);
     print.at
 }

@@ -72,7 +72,7 @@ pub fn sheet_print(bytes: &[u8], out: &mut [u8]) -> usize
     ensures within { Within result out.new }
     ensures whole { 2048 ≤ length out.old → take result out.new ≡ sheet_print bytes.now }
 {
-    let mut print = Sink { places: out, at: 0 };
+    let mut print = Sink::new(out);
     put_bytes(&mut print, bytes);
     print.at
 }

@@ -53,7 +53,7 @@ pub fn verdict_print(bytes: &[u8], out: &mut [u8]) -> usize
     ensures within { Within result out.new }
     ensures whole { 131072 ≤ length out.old → take result out.new ≡ verdict_print bytes.now }
 {
-    let mut print = Sink { places: out, at: 0 };
+    let mut print = Sink::new(out);
     put_bytes(&mut print, bytes);
     print.at
 }

@@ -18,6 +18,7 @@ fn is_retired(s: State, p: u32) -> bool
 
 // Asks them of processor p, from the least on, with a table of so many cells and a log of so many rows: the first that is not passed is
 // the refusal.
+#[inline(always)]
 pub fn ask<P: Protocol>(
     s: State,
     cells: usize,

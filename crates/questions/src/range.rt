@@ -1,6 +1,6 @@
 // Question 4.
 ghost use Rattle.std.specs.Prelude.{◌≡◌, ◌≤◌};
-ghost use Rattle.common.specs.State.{open_readers, open_in};
+ghost use Rattle.common.specs.State.{open_in};
 ghost use Rattle.common.specs.Rules.{readers_ok, state_ok};
 
 use common::State;
@@ -8,6 +8,7 @@ use common::limits::{count_one, head_ok};
 use kinds::Protocol;
 use reader::as_counted;
 
+#[inline(always)]
 fn readers_ok<P: Protocol>(s: State) -> bool
     requires { s.head.n ≤ 16 }
     ensures { result ≡ readers_ok P.rules s }
@@ -18,26 +19,21 @@ fn readers_ok<P: Protocol>(s: State) -> bool
         .all(|r| P::reader_ok(as_counted(*r), n))
 }
 
-// The readers whose open read counts.
-fn open_readers(s: State) -> usize
-    requires { s.head.n ≤ 16 }
-    ensures { result ≡ open_readers s }
-{
-    s.readers[..s.head.n as usize]
-        .iter()
-        .filter(|r| as_counted(**r).active)
-        .count()
-}
-
-// The open operations.
+// The open operations: the writer's, and those of the readers whose open read counts.
+#[inline(always)]
 fn open_in(s: State) -> usize
     requires { s.head.n ≤ 16 }
     ensures { result ≡ open_in s }
 {
-    count_one(s.writer.active) + open_readers(s)
+    let reads = s.readers[..s.head.n as usize]
+        .iter()
+        .filter(|r| as_counted(**r).active)
+        .count();
+    count_one(s.writer.active) + reads
 }
 
 // Whether the state is in range, with a table of so many cells and a log of so many rows.
+#[inline(always)]
 pub fn state_ok<P: Protocol>(s: State, cells: usize, log: usize) -> bool
     ensures { result ≡ state_ok P.rules s cells log }
 {

@@ -1,5 +1,5 @@
-// A fresh reader, one that begins a read, one that is retired, and question 4 of one reader. They are functions, since the definitions
-// of their contracts stand in protocol, above the type's crate.
+// A fresh reader, one that begins a read, one that is retired, and question 4 of one reader. They are functions, as document PROMISES names
+// `as_counted` and `retire_reader`; question 4's definitions stand in protocol, above the type's crate.
 #![tactic(auto)]
 
 ghost use Rattle.std.specs.Prelude.{◌≡◌};

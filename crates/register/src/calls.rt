@@ -1,5 +1,5 @@
-// Begins, sub-steps and retirements, of either register. The state goes by value and comes back by value, and the table and the log are lent
-// beside it, as C lends them: of a struct behind a reference two fields can not both be lent to be written.
+// Begins, sub-steps and retirements, of either register. The state goes by value and comes back by value, and C lends the table and the log
+// apart from it. What a call consists of is inlined: each part would copy the state.
 ghost use Rattle.std.specs.Prelude.{◌≡◌, true, false, ◌-◌, ◌<◌, ◌≤◌, length, Ok};
 ghost use Rattle.common.specs.Answers.{reply};
 ghost use Rattle.common.specs.Head.{began, ended};
@@ -29,6 +29,7 @@ pub struct Called {
 
 impl Called {
     // What a call on the state s gives, by what comes of it: what was done and the state then, or a refusal, behind which it is s.
+    #[inline(always)]
     pub(crate) fn of(s: State, made: Result<(Done, State), Refusal>) -> Called
         ensures { result ≡ called_of s made }
     {
@@ -70,6 +71,7 @@ fn ended(h: Head) -> Head
 }
 
 // The state with another reader i + 1, and another head.
+#[inline(always)]
 fn with_reader(s: State, i: usize, r: Reader, head: Head) -> State
     requires { i < 16 }
     ensures { result ≡ with_reader s i r head }
@@ -79,6 +81,7 @@ fn with_reader(s: State, i: usize, r: Reader, head: Head) -> State
     State { head, readers, ..s }
 }
 
+#[inline(always)]
 fn write_begun<P: Protocol>(
     s: State,
     table: &[u64],
@@ -113,6 +116,7 @@ pub fn begin_write(s: State, table: &mut [u64], log: &mut [u64], value: u32) -> 
     ensures { (outcome result table.new log.new ≡ begin_write_of (rules_of s.head.counted) s table.old log.old value)
         × (reply result.answer ≡ reply (begin_write_of (rules_of s.head.counted) s table.old log.old value).answer) }
 {
+    // Asked once in each public call: a generic function can not be handed on as a value, so four times.
     if s.head.counted {
         Called::of(s, write_begun::<Counting>(s, table, log, value))
     } else {
@@ -120,6 +124,7 @@ pub fn begin_write(s: State, table: &mut [u64], log: &mut [u64], value: u32) -> 
     }
 }
 
+#[inline(always)]
 fn read_begun<P: Protocol>(
     s: State,
     table: &[u64],
@@ -155,6 +160,7 @@ pub fn begin_read(s: State, table: &mut [u64], log: &mut [u64], p: u32) -> Calle
 }
 
 // A sub-step of the open write.
+#[inline(always)]
 fn step_writer<P: Steps>(s: State, table: &mut [u64], log: &mut [u64]) -> (Done, State)
     requires { InRange P.rules s (length table.old) (length log.old) × (s.writer.active ≡ true) }
     ensures { outcome (called_of s (Ok result)) table.new log.new ≡ step_writer P.rules s table.old log.old }
@@ -170,6 +176,7 @@ fn step_writer<P: Steps>(s: State, table: &mut [u64], log: &mut [u64]) -> (Done,
 }
 
 // A sub-step of reader p's open read.
+#[inline(always)]
 fn step_reader<P: Steps>(s: State, table: &mut [u64], log: &mut [u64], p: u32) -> (Done, State)
     requires { InRange P.rules s (length table.old) (length log.old) × (1 ≤ p) × (p ≤ s.head.n) × (is_retired s p ≡ false) × ((reader_at s (p - 1)).active ≡ true) }
     ensures { outcome (called_of s (Ok result)) table.new log.new ≡ step_reader P.rules s table.old log.old p }
@@ -185,6 +192,7 @@ fn step_reader<P: Steps>(s: State, table: &mut [u64], log: &mut [u64], p: u32) -
 }
 
 // A sub-step of processor p, if it has an open operation (8).
+#[inline(always)]
 fn stepped<P: Steps>(
     s: State,
     table: &mut [u64],
@@ -219,6 +227,7 @@ pub fn step(s: State, table: &mut [u64], log: &mut [u64], p: u32) -> Called
 }
 
 // Reader p is in the set of the retired, and its operation counts as open no longer.
+#[inline(always)]
 fn retired<P: Protocol>(
     s: State,
     table: &[u64],

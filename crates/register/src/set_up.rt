@@ -37,7 +37,7 @@ fn fill_at(table: &mut [u64], at: usize, n: usize, word: u64)
     table[at..at + n].fill(word);
 }
 
-// The fresh cells, row by row: the writer's first. Row i starts at n times i.
+// The fresh cells, the writer's first. Row by row, as each store has to reach its cell through a part of the table that starts at n times i.
 fn fill_rows(table: &mut [u64], n: usize, rows: usize, own: u64, other: u64)
     requires { (1 ≤ rows) × (n * rows ≤ length table.old) }
     ensures { table.new ≡ (replicate n own ++ replicate (n * rows - n) other) ++ drop (n * rows) table.old }

@@ -27,7 +27,7 @@ fn kind_in(letter: u8) -> Option<u64>
     }
 }
 
-// The call of a line as a word.
+// The call of a line as a word. Words, not `common::calls::Call`: this crate stands below `common`.
 #[tactic(auto, using(fields::proofs::FieldLaws::number_rest), unfolding(crate::specs::Script::call_in))]
 pub fn call_in(line: &[u8]) -> Option<u64>
     ensures { MatchOption result (call_in line.now ≡ 0) (λ call. (call ≡ call_in line.now) × (0 < call)) }

@@ -22,6 +22,7 @@ pub(crate) fn rank_from(rows: &[u64], f: usize, rank: usize, q: usize) -> usize
     ensures { result ≡ rank_of rows.now (max f q) }
 {
     let mut n = rank;
+    // By index: f may lie behind q.
     for j in f..q {
         n = with_write(rows[j + 1], n);
     }

@@ -16,6 +16,7 @@ fn lines(rows: &[u64]) -> [Line; PROCESSORS]
     ensures { result ≡ lines_in rows.now (listing rows.now) }
 {
     let mut sweep = Sweep::new();
+    // Apart from the judge's sweep, which has the floors.
     let mut ranks = [0; PROCESSORS];
     let mut lines = [Line { reads: 0, lags: 0 }; PROCESSORS];
     let mut top_rank = 0;

@@ -9,7 +9,7 @@ use lists::{Ran, run, run_counted};
 // What buffers hold before anything is written to them.
 const MARK: u64 = 0xFFFF_FFFF_FFFF_FFFF;
 
-// The first register, or the counted one.
+// The first register, or the counted one. Without a stamp: it is drawn later.
 #[derive(Clone, Copy)]
 pub(crate) enum Kind {
     Tickets,

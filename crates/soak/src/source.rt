@@ -4,7 +4,7 @@ ghost use Rattle.std.specs.Prelude.{◌<◌, ◌≤◌};
 
 use super::sum::Generator;
 
-// Calls as words, as `lists::run` takes them.
+// Words, as `lists::run` takes them for C.
 const WRITE: u64 = 0x1_0000_0000;
 
 const READ: u64 = 0x2_0000_0000;

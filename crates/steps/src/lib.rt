@@ -32,6 +32,8 @@ pub trait Steps: Protocol {
     ghost read_low: { (n p : ℕ) (r : Reader) → n ≤ 16 → 1 ≤ p → p ≤ n → r.active ≡ true → Self.rules.reader_ok n r ≡ true → r.moved < 64 };
 }
 
+// Each register says it for itself: as one body in the trait, the step within would be a public method that asks something (`TableOk`), and
+// nothing public has a `requires`.
 impl Steps for Tickets {
     #[tactic(auto, unfolding(crate::specs::Step::write_step_of))]
     fn write_step(w: Writer, n: u32, table: &mut [u64]) -> Writer {

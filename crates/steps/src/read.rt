@@ -29,22 +29,20 @@ fn attempt_step(r: Reader, n: u32, p: u32, l: u32, table: &mut [u64]) -> Reader
     ensures { read_stepped result table.new ≡ attempt_step n p l r table.old }
 {
     let next = count_word(r);
-    if l == 0 {
-        return looks_first(next, word_from::<Tickets>(table, n, 0, p));
+    match l {
+        0 => looks_first(next, word_from::<Tickets>(table, n, 0, p)),
+        1 => {
+            let c = announcement(r.stamp, r.look);
+            store_word::<Tickets>(table, n, p, 0, u64::from(c));
+            next
+        }
+        2 => looks_again(next, word_from::<Tickets>(table, n, 0, p)),
+        _ if l < n + 2 => {
+            let q = other_reader(p, (l - 3) as u8);
+            looks_at_other(next, word_from::<Tickets>(table, n, q, p))
+        }
+        _ => looks_third(next, word_from::<Tickets>(table, n, 0, p)),
     }
-    if l == 1 {
-        let c = announcement(r.stamp, r.look);
-        store_word::<Tickets>(table, n, p, 0, u64::from(c));
-        return next;
-    }
-    if l == 2 {
-        return looks_again(next, word_from::<Tickets>(table, n, 0, p));
-    }
-    if l < n + 2 {
-        let q = other_reader(p, (l - 3) as u8);
-        return looks_at_other(next, word_from::<Tickets>(table, n, q, p));
-    }
-    looks_third(next, word_from::<Tickets>(table, n, 0, p))
 }
 
 // Store k, from 0, of the result.

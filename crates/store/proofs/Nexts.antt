@@ -1,5 +1,5 @@
--- The loop that finds each row of the log: row k, of byte k - 1.
-use Prim.Native.Nat.{ℕ, ◌≤◌, ◌<◌, ◌+◌, ◌-◌}
+-- The loop that finds each row of the log: row k + 1, of byte k.
+use Prim.Native.Nat.{ℕ, ◌≤◌, ◌<◌, ◌+◌}
 use native.Mathlib.Omega.{arith}
 use native.Mathlib.Decide.{ℕ_discrete}
 use native.Mathlib.Numerals.{add-one}
@@ -44,16 +44,14 @@ module _ (bytes next : List ℕ) (k : ℕ) (inside : k < length bytes) (N : Next
     ]);
   }
 
--- The first k rows are put, into the places o.
+-- Row 0 and those of the first k bytes are put, into the places o.
 pub record Putting (bytes rows o log next : List ℕ) (k : ℕ) : Type 0 where
   pub matching : T (matched bytes rows)
   pub few : length rows ≤ 4096
   pub room : length rows ≤ length o
-  pub from : 1 ≤ k
-  pub upto : k ≤ length rows
-  pub nexts : Nexts bytes next (k - 1)
+  pub nexts : Nexts bytes next k
   pub same_length : length log ≡ length o
-  pub there : log ≡ laid (take k (log_of bytes rows)) o
+  pub there : log ≡ laid (take (k + 1) (log_of bytes rows)) o
 
 module _ (bytes rows : List ℕ) (t : T (matched bytes rows)) where
   M : Matched bytes rows
@@ -66,13 +64,11 @@ module _ (bytes rows : List ℕ) (t : T (matched bytes rows)) where
   fewer_bytes = omega (arith, M.number)
 
   pub putting_start : (o next : List ℕ) → length rows ≤ 4096 → length rows ≤ length o → length next ≡ 256 → Starts bytes next
-      → Putting bytes rows (set o 0 (get_or rows 0 0)) (set o 0 (get_or rows 0 0)) next 1
+      → Putting bytes rows (set o 0 (get_or rows 0 0)) (set o 0 (get_or rows 0 0)) next 0
   putting_start o next a b n S = record {
     matching = t;
     few = a;
     room = omega (arith, length-set o 0 (get_or rows 0 0));
-    from = omega arith;
-    upto = some_rows;
     nexts = nexts_start bytes next n S;
     same_length = refl;
     there = rw (← log_first bytes rows M) (copy_start (log_of bytes rows) o (omega (arith, log_length bytes rows M, some_rows)) (omega (arith, some_rows)));
@@ -85,43 +81,41 @@ module _ {bytes rows o log next : List ℕ} {k : ℕ} (P : Putting bytes rows o 
   belong : Matched bytes rows
   belong = matched→ bytes rows P.matching
 
-  pub all_put : length rows ≤ k → log ≡ laid (log_of bytes rows) o
+  pub all_put : length bytes ≤ k → log ≡ laid (log_of bytes rows) o
   all_put a =
-      P.there ∙ ap (λ (l : List ℕ). laid l o) (take_all k (log_of bytes rows) (omega (arith, log_length bytes rows belong)))
+      P.there ∙ ap (λ (l : List ℕ). laid l o) (take_all (k + 1) (log_of bytes rows) (omega (arith, log_length bytes rows belong, belong.number)))
 
-  module _ (inside : k < length rows) where
-    pub byte_in : k - 1 < length bytes
-    byte_in = omega (arith, P.from, belong.number)
+  module _ (inside : k < length bytes) where
+    pub row_in : k + 1 < length log
+    row_in = omega (arith, belong.number, P.room, P.same_length)
 
-    module _ {p : ℕ} (e : p ≡ get_or bytes (k - 1) 0) (a : p < 256) where
+    pub row_small : k + 1 < 4096
+    row_small = omega (arith, belong.number, P.few)
+
+    module _ {p : ℕ} (e : p ≡ get_or bytes k 0) (a : p < 256) where
       pub place_in : get_or next p 0 < length rows
       place_in =
-          let c : count_of p (take (k - 1) bytes) < count_of p bytes = rw e (count_less bytes (k - 1) byte_in) in
-          omega (arith, c, next_is bytes next (k - 1) byte_in P.nexts e a, belong.number, start_next bytes p, start_le bytes (p + 1))
+          let c : count_of p (take k bytes) < count_of p bytes = rw e (count_less bytes k inside) in
+          omega (arith, c, next_is bytes next k inside P.nexts e a, belong.number, start_next bytes p, start_le bytes (p + 1))
 
-      row_is : get_or rows (get_or next p 0) 0 ≡ get_or (log_of bytes rows) k 0
+      row_is : get_or rows (get_or next p 0) 0 ≡ get_or (log_of bytes rows) (k + 1) 0
       row_is =
-          let f : 1 + (k - 1) ≡ k = omega (arith, P.from) in
-          let g : get_or next p 0 ≡ 1 + (length (gather (λ b. b) (get_or bytes (k - 1) 0) bytes) + count_of (get_or bytes (k - 1) 0) (take (k - 1) bytes)) =
-          next_is bytes next (k - 1) byte_in P.nexts e a ∙ ap (next_of bytes (k - 1)) e ∙ omega arith in
+          let f : 1 + k ≡ k + 1 = omega arith in
+          let g : get_or next p 0 ≡ 1 + (length (gather (λ b. b) (get_or bytes k 0) bytes) + count_of (get_or bytes k 0) (take k bytes)) =
+          next_is bytes next k inside P.nexts e a ∙ ap (next_of bytes k) e ∙ omega arith in
           sym (
           ap (λ (i : ℕ). get_or (log_of bytes rows) i 0) (sym f)
-          ∙ log_row bytes rows belong (k - 1) byte_in
-          ∙ back_place bytes rows belong (k - 1) byte_in (rw (← e) a)
+          ∙ log_row bytes rows belong k inside
+          ∙ back_place bytes rows belong k inside (rw (← e) a)
           ∙ ap (λ (i : ℕ). get_or rows i 0) (sym g)
           )
 
-      pub one_put : Putting bytes rows o (set log k (get_or rows (get_or next p 0) 0)) (set next p (get_or next p 0 + 1)) (k + 1)
+      pub one_put : Putting bytes rows o (set log (k + 1) (get_or rows (get_or next p 0) 0)) (set next p (get_or next p 0 + 1)) (k + 1)
       one_put = record {
         matching = P.matching;
         few = P.few;
         room = P.room;
-        from = omega arith;
-        upto = omega arith;
-        nexts = rw f (nexts_step bytes next (k - 1) byte_in P.nexts e a);
-        same_length = length-set log k (get_or rows (get_or next p 0) 0) ∙ P.same_length;
-        there = rw (row_is, P.there) (copy_step (log_of bytes rows) o k (omega (arith, log_length bytes rows belong)) (omega (arith, P.room, log_length bytes rows belong)));
+        nexts = nexts_step bytes next k inside P.nexts e a;
+        same_length = length-set log (k + 1) (get_or rows (get_or next p 0) 0) ∙ P.same_length;
+        there = rw (row_is, P.there) (copy_step (log_of bytes rows) o (k + 1) (omega (arith, log_length bytes rows belong, belong.number)) (omega (arith, P.room, log_length bytes rows belong)));
       }
-        where
-          f : k + 1 - 1 ≡ k - 1 + 1
-          f = omega (arith, P.from)

@@ -13,9 +13,9 @@ pub(crate) fn put_log(bytes: &[u8], rows: &[u64], log: &mut [u64])
     let mut next = [0usize; 256];
     put_starts(bytes, &mut next);
     log[0] = rows[0];
-    for k in 1..rows.len() {
-        let p = usize::from(bytes[k - 1]);
-        log[k] = rows[next[p]];
+    for (k, byte) in bytes.iter().enumerate() {
+        let p = usize::from(*byte);
+        log[k + 1] = rows[next[p]];
         next[p] += 1;
     }
 }

@@ -18,10 +18,7 @@ fn say(rt: &HostRuntime, made: Result<&[u8], Fault>) -> io::Result<()> {
         Ok(bytes) => rt.write_all(bytes),
         Err(fault) => {
             let mut line = [0u8; 32];
-            let mut text = Sink {
-                places: &mut line,
-                at: 0,
-            };
+            let mut text = Sink::new(&mut line);
             text.put_refused(fault.number() as u64);
             let n = text.at;
             rt.stderr().write_all(&line[..n])

@@ -1,4 +1,4 @@
-// How a call is printed.
+// How a call is printed. A type of its own: `Call` and `Display` are other crates'.
 use common::calls::Call;
 use std::fmt;
 

@@ -1,4 +1,5 @@
 // A state with a field changed. The fields are numbered, since a trial is numbers: an enum between would be told by the same numbers.
+// Field 0 counts as 4.
 use common::{Head, Reader, State, Writer};
 use words::stamp::Stamp;
 

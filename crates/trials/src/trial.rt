@@ -15,8 +15,8 @@ use register::calls::{Called, begin_read};
 use register::set_up::{set_up, set_up_counted};
 use std::io;
 
-// The state, and how many cells and rows are lent. The table and the log stand beside it: behind a reference, two fields of one struct can
-// not both be lent to be written.
+// The state, and how many cells and rows are lent. The table and the log were tried as fields of the trial: the check has no rule for two
+// fields that are lent behind a reference at once, one of them in part.
 #[derive(Drop)]
 struct Trial {
     state: State,

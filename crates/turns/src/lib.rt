@@ -56,10 +56,7 @@ pub fn list_schedules(a: u32, b: u32, list: &mut [u64]) -> usize
     if 16 < writer + reader {
         return 0;
     }
-    let mut listed = Lent {
-        places: list,
-        at: 0,
-    };
+    let mut listed = Lent::new(list);
     after_writer(writer, reader, 0, &mut listed);
     listed.at
 }

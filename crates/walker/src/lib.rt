@@ -16,6 +16,7 @@ pub struct Walker<'a> {
 }
 
 // What an advance finds: the row, and the number of the row behind it. At the log's end the row is 0 and the number stays.
+// No Option: `step_at` of walker/specs/Walk tells the end by 0 and a number that stays.
 #[derive(Clone, Copy)]
 pub struct Step {
     pub row: u64,

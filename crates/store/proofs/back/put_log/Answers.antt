@@ -1,7 +1,7 @@
 use native.Mathlib.Omega.{arith}
 use mathlib.Core.Path.{refl, ◌∙◌}
 use lib.ListN.{get_or, length-set}
-use Rattle.store.proofs.Nexts.{some_rows, fewer_bytes, putting_start, over_log, all_put, byte_in, place_in, one_put}
+use Rattle.store.proofs.Nexts.{some_rows, fewer_bytes, putting_start, over_log, all_put, row_in, row_small, place_in, one_put}
 use Rattle.store.proofs.back.put_log.Goals as goal
 
 pub put_starts-requires : goal.put_starts-requires
@@ -19,9 +19,6 @@ loop-k-init c =
     let p = c.put_starts in
     putting_start c.args.bytes.now c.args.rows.now c.requires.0 c.args.log.now _ c.requires.1 c.requires.2 p.auto.next p.ensures
 
-pub bounds-bytes-k : goal.bounds-bytes-k
-bounds-bytes-k c = byte_in c.loop-k.invariant (omega arith)
-
 pub bounds-next-p : goal.bounds-next-p
 bounds-next-p c = omega arith
 
@@ -33,8 +30,11 @@ offset_bounds-rows-next c =
 pub bounds-rows-next : goal.bounds-rows-next
 bounds-rows-next c = place_in c.loop-k.invariant (omega arith) c.from-p.ensures (omega arith)
 
+pub offset_bounds-log-k : goal.offset_bounds-log-k
+offset_bounds-log-k c = omega (arith, row_small c.loop-k.invariant (omega arith))
+
 pub bounds-log-k : goal.bounds-log-k
-bounds-log-k c = let l = c.loop-k in omega (arith, l.invariant.same_length, l.invariant.room)
+bounds-log-k c = row_in c.loop-k.invariant (omega arith)
 
 pub overflow_add-next : goal.overflow_add-next
 overflow_add-next c =

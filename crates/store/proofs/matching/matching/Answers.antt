@@ -4,11 +4,8 @@ use lib.ListN.{length, get_or}
 use Rattle.store.proofs.Agreed.{wrong_number, agreed_start, agreed_less, agreed_room, agreed_all, agreed_not, agreed_next, all_of_is}
 use Rattle.store.proofs.matching.matching.Goals as goal
 
-pub returns-then-rows-lt1 : goal.returns-then-rows-lt1
-returns-then-rows-lt1 c = wrong_number _ _ (λ e. omega arith)
-
 pub returns-then-rows-bytes : goal.returns-then-rows-bytes
-returns-then-rows-bytes c = wrong_number _ _ (λ e. c.if-rows-bytes.true (omega arith))
+returns-then-rows-bytes c = wrong_number _ _ c.if-rows-bytes.true
 
 pub loop-at-init : goal.loop-at-init
 loop-at-init c = agreed_start _ _ (omega arith)
