@@ -1,6 +1,6 @@
 #!/usr/bin/env python3
-"""Reads the source, and proves nothing: that every public function has a promise, an `ensures`, and asks nothing, has no
-`requires`. Names those that do not, and counts the rest. Not part of the gate."""
+"""Reads the source, and proves nothing: that every public function, and every function of a public trait, has a promise, an `ensures`, and asks
+nothing, has no `requires`. Names those that do not, and counts the rest. Not part of the gate."""
 
 import re
 from pathlib import Path
@@ -8,12 +8,23 @@ from pathlib import Path
 # A function of a module, or a method: its body begins where the brace stands as far in as its head.
 HEAD = re.compile(r'^( *)pub (?:extern "C" )?fn (\w+)(.*?)^\1\{$', re.DOTALL | re.MULTILINE)
 
+# A public trait, and a function of it: with a body or with none.
+TRAIT = re.compile(r'^pub trait .*?^\}$', re.DOTALL | re.MULTILINE)
+TOLD = re.compile(r'^    (?:final )?fn (\w+)(.*?)(?:;$|^    \{$)', re.DOTALL | re.MULTILINE)
+
+
+def heads(text):
+    """Each public function's name and what stands before its body."""
+    yield from ((name, head) for _, name, head in HEAD.findall(text))
+    for trait in TRAIT.findall(text):
+        yield from TOLD.findall(trait)
+
 
 def main():
     crates = Path(__file__).resolve().parent.parent / 'crates'
     kept, broken = 0, []
     for source in sorted(crates.glob('*/src/**/*.rt')):
-        for _, name, head in HEAD.findall(source.read_text()):
+        for name, head in heads(source.read_text()):
             if 'ensures' in head and 'requires' not in head:
                 kept += 1
             else:

@@ -28,5 +28,6 @@ impl Prints<TEXT, 1048576> for Bench {
 }
 
 fn main(rt: HostRuntime) -> io::Result<()> {
-    Bench::print_each(&rt)
+    Bench::print_each(&rt)?;
+    Ok(())
 }

@@ -1,5 +1,7 @@
 -- The calls of a list.
 use Rattle.std.specs.Prelude.{ℕ, ◌^◌, ◌<◌, Bool, true, false, List, [], ◌∷◌}
+-- "A list has any number of begins of a write, begins of a read and sub-steps, in any order, with any reading and any processor
+-- number." (02) "Demand 3's lists hold retirements too"
 pub use Rattle.common.specs.declared.calls.Call.{Call}
 pub use Rattle.common.specs.declared.calls.Call.TheVariants.{Write as write, Read as read, Step as step, Retire as retire}
 

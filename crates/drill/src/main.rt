@@ -28,5 +28,6 @@ impl Prints<TEXT, 2097152> for Drill {
 }
 
 fn main(rt: HostRuntime) -> io::Result<()> {
-    Drill::print_each(&rt)
+    Drill::print_each(&rt)?;
+    Ok(())
 }

@@ -5,7 +5,7 @@ ghost use Rattle.lines.specs.Adds.{Adds};
 ghost use Rattle.printing.specs.Drill.{drill_lines, drill_print};
 
 use super::line::put_lines;
-use fields::read_one_line;
+use fields::read_line_array;
 use lines::Sink;
 use turns::list_schedules;
 
@@ -27,7 +27,7 @@ fn put_drill(out: &mut Sink, n: u32, start: u32, v: u32, a: u32, b: u32)
 fn put_input(out: &mut Sink, bytes: &[u8])
     ensures { Adds (drill_print bytes.now) out.old out.new }
 {
-    match read_one_line::<5>(bytes, 65536) {
+    match read_line_array(bytes, 65536, [0; 5]) {
         Some(numbers) => {
             let [n, start, v, a, b] = numbers;
             let turns = u64::from(a) + u64::from(b);

@@ -3,6 +3,8 @@
 // this returned. The answer is a word: above, the refusal number or 0; below, the sub-step's number or 0.
 #![tactic(auto)]
 
+pub mod local; // the entries over a state in a local
+
 ghost use Rattle.std.specs.Prelude.{◌≡◌};
 ghost use Rattle.common.specs.CallWords.{answer_word};
 ghost use Rattle.protocol.specs.Rules.{ticket_rules};
@@ -13,6 +15,22 @@ use common::State;
 use common::numbers::answer_word;
 use register::calls::{Called, begin_read, begin_write, retire, step};
 use register::set_up::{set_up, set_up_counted};
+
+// A call's answer as a word, and the state to hand to the next one.
+#[derive(Clone, Copy, Debug, PartialEq, Eq)]
+pub struct Worded {
+    pub word: u64,
+    pub state: State,
+}
+
+// What a call by value gave, with its answer as a word.
+pub fn in_word(called: Called) -> Worded
+    ensures { (result.word ≡ answer_word called.answer) × (result.state ≡ called.state) }
+{
+    let Called { answer, state } = called;
+    let word = answer_word(answer);
+    Worded { word, state }
+}
 
 // Stores the state that a call gave, and tells its answer.
 fn store(state: &mut State, called: Called) -> u64

@@ -4,17 +4,16 @@ use native.Mathlib.Omega.{arith}
 use native.Mathlib.Numerals.{add-one}
 use mathlib.Core.Path.{◌≡◌, refl, sym, ap, ◌∙◌}
 use mathlib.Core.Logic.{◌≢◌}
-use mathlib.Core.Bool.{Bool, true, false, ◌&&◌, and_assoc, and-false}
-use mathlib.Core.List.{List, [], ◌∷◌, ◌++◌, map, append-nil, append_assoc}
+use mathlib.Core.Bool.{Bool, true, false}
+use mathlib.Core.List.{List, [], ◌∷◌, append-nil}
 use lib.Dec.{eqb, ltb}
-use lib.ListN.{length, get_or, take, drop, set, replicate, length-append, length-take, length-drop, length-set, length-replicate, length-map}
-use lib.Seq.{take_all}
-use Rattle.std.proofs.Common.{Option, None, Some, MatchOption, Bor}
-use Rattle.std.proofs.lemmas.List.{take_more_set}
-use borrow.Author.Tests.{eq-eqb, ne_eqb, eqb-true, ltb-true, lt-ltb}
+use lib.ListN.{length, get_or, take, drop, set, length-set, length-drop, drop_of_length-le}
+use lib.Seq.{sets, length-sets, sets-eq, drop-cons, drop-drop}
+use borrow.Author.Tests.{eq-eqb, ne_eqb, eqb-true, ltb-true, le-ltb, lt-ltb}
 use Rattle.words.specs.Choice.{pick}
-use Rattle.words.proofs.Laws.Choice.{left, right, pick_ind}
+use Rattle.words.proofs.Laws.Choice.{left, right}
 use Rattle.fields.specs.Fields.{before, place_of, none, number_in, longer, fields_of, numbers_in, each_number, all_numbers}
+use Rattle.fields.proofs.FieldLaws.{place_from, number_rest}
 
 -- A line with a space, and one without.
 first_field : (l : List ℕ) → before 32 l < length l → fields_of l ≡ take (before 32 l) l ∷ fields_of (drop (before 32 l + 1) l)
@@ -37,91 +36,71 @@ only_field (b ∷ l) h = go (eqb b 32) h (λ i. only_field l i)
     go true i f = absurd (omega arith)
     go false i f = rw (f (omega arith))
 
--- A line up to its first space, at place e, or the end.
-module _ (l : List ℕ) (e : ℕ) (at : e ≡ place_of 32 l 0) where
-  pub field_ended : e < length l → fields_of l ≡ take e l ∷ fields_of (take (length l - (e + 1)) (drop (e + 1) l))
-  unfolding place_of
-  field_ended h =
-      let n : before 32 l ≡ e = omega arith in
-      rw (take_all (length l - (e + 1)) (drop (e + 1) l) (omega (arith, length-drop (e + 1) l)))
-      (rw n at (first_field l (omega arith)))
+-- The numbers from place p on, where e is the place of the next space, or the end.
+module _ (line : List ℕ) (p e : ℕ) (at : e ≡ place_of 32 line p) where
+  numbers_next : e < length line → numbers_in (drop p line) ≡ number_in (take (e - p) (drop p line)) ∷ numbers_in (drop (e + 1) line)
+  unfolding numbers_in place_of
+  numbers_next h =
+      let d = drop p line in
+      let n : before 32 d ≡ e - p = omega arith in
+      let m : p + (before 32 d + 1) ≡ e + 1 = omega arith in
+      rw (first_field d (omega (arith, length-drop p line)), drop-drop (before 32 d + 1) p line, m, n)
 
-  pub field_open : length l ≤ e → fields_of l ≡ l ∷ []
-  unfolding place_of
-  field_open h = only_field l (omega arith)
+  numbers_last : length line ≤ e → numbers_in (drop p line) ≡ number_in (drop p line) ∷ []
+  unfolding numbers_in place_of
+  numbers_last h = rw (only_field (drop p line) (omega (arith, length-drop p line)))
 
--- There is a field.
-some_field : (l : List ℕ) → 1 ≤ length (fields_of l)
-unfolding fields_of longer
-some_field [] = omega arith
-some_field (b ∷ l) = pick_ind (λ (fs : List (List ℕ)). 1 ≤ length fs) (eqb b 32) _ _ (λ _. omega arith) (λ _. go (fields_of l))
-  where
-    go : (fs : List (List ℕ)) → 1 ≤ length (longer b fs)
-    go [] = omega arith
-    go (f ∷ fs) = omega arith
+-- What is left of a line from place p on, with k of its numbers put: o were the places for them, and w are they now.
+module _ (line o : List ℕ) where
+  pub record Left (w : List ℕ) (p k e : ℕ) : Type 0 where
+    -- the place of the next space, or the end
+    pub end_is : e ≡ place_of 32 line p
+    pub few : k ≤ p
+    pub inside : p ≤ length line
+    pub same_places : length w ≡ length o
+    pub numbers_are : sets w k (numbers_in (drop p line)) ≡ sets o 0 (numbers_in line)
+    pub count_is : k + length (numbers_in (drop p line)) ≡ length (numbers_in line)
 
--- Numbers, one by one.
-each_append : (ms ns : List ℕ) → each_number (ms ++ ns) ≡ (each_number ms && each_number ns)
-unfolding each_number
-each_append [] ns = refl
-each_append (m ∷ ms) ns = rw (each_append ms ns) (sym (and_assoc (ltb m none) (each_number ms) (each_number ns)))
+  pub left_all : (e : ℕ) → e ≡ place_of 32 line 0 → Left o 0 0 e
+  left_all e at = record { end_is = at; few = omega arith; inside = omega arith; same_places = refl; numbers_are = refl; count_is = omega arith }
 
-other_count : (n : ℕ) (ns : List ℕ) → length ns ≢ n → all_numbers n ns ≡ false
-unfolding all_numbers
-other_count n ns d = rw (ne_eqb (length ns) n d)
+  module _ {w : List ℕ} {p k e : ℕ} (x : ℕ) (w' : List ℕ) (l : Left w p k e) (put : w' ≡ set w k x) where
+    pub left_same : length w' ≡ length o
+    left_same = ap length put ∙ length-set w k x ∙ l.same_places
 
--- The fields behind the first one, if there is more of the line.
-unfoldable pub behind : Option (Bor (List ℕ)) → List (List ℕ)
-behind None = []
-behind (Some rest) = fields_of rest.now
-
-pub behind_field : (line field : List ℕ) (rest : Option (Bor (List ℕ)))
-    → MatchOption rest (fields_of line ≡ field ∷ []) (λ r. fields_of line ≡ field ∷ fields_of r.now) → fields_of line ≡ field ∷ behind rest
-unfolding behind
-behind_field line field None e = e
-behind_field line field (Some r) e = e
-
--- What the code has read of a line: the first k of ns, each a number, and what fields are left.
-module _ (line : List ℕ) (n : ℕ) where
-  pub record Left (ns : List ℕ) (k : ℕ) (fields : List (List ℕ)) : Type 0 where
-    pub numbers_are : numbers_in line ≡ take k ns ++ map number_in fields
-    pub each : each_number (take k ns) ≡ true
-    pub places : length ns ≡ n
-
-  pub left_start : Left (replicate n 0) 0 (fields_of line)
-  unfolding numbers_in each_number
-  left_start = record { numbers_are = refl; each = refl; places = length-replicate n 0 }
-
-  module _ {ns : List ℕ} {fields : List (List ℕ)} {k : ℕ} (l : Left ns k fields) where
-    pub left_next : (x : ℕ) (f : List ℕ) (fs : List (List ℕ)) → k < n → fields ≡ f ∷ fs → x ≡ number_in f → x < none → Left (set ns k x) (k + 1) fs
-    unfolding each_number
-    left_next x f fs h e v low =
-        let t : take (k + 1) (set ns k x) ≡ take k ns ++ x ∷ [] = take_more_set ns k x (omega (arith, l.places)) in
+    pub left_next : (e' : ℕ) → e < length line → x ≡ number_in (take (e - p) (drop p line)) → e' ≡ place_of 32 line (e + 1)
+        → Left w' (e + 1) (k + 1) e'
+    left_next e' h v at =
+        let n : numbers_in (drop p line) ≡ x ∷ numbers_in (drop (e + 1) line) = rw v (numbers_next line p e l.end_is h) in
         record {
-          numbers_are = rw (t, append_assoc, v) (rw e at l.numbers_are);
-          each = rw (t, each_append, l.each, lt-ltb x none low) refl;
-          places = length-set ns k x ∙ l.places;
+          end_is = at;
+          few = omega (arith, l.few, l.end_is, place_from 32 line p);
+          inside = omega arith;
+          same_places = left_same;
+          numbers_are =
+              rw (put, add-one k) (sym (ap (λ (ns : List ℕ). sets w k ns) n) ∙ l.numbers_are);
+          count_is = omega (arith, l.count_is, ap length n);
         }
 
-    pub left_bad : (f : List ℕ) (fs : List (List ℕ)) → fields ≡ f ∷ fs → number_in f ≡ none → all_numbers n (numbers_in line) ≡ false
-    unfolding all_numbers each_number
-    left_bad f fs e v = rw (l.numbers_are, e, v, each_append, l.each) (and-false (eqb (length (take k ns ++ none ∷ map number_in fs)) n))
+    pub left_last : length line ≤ e → x ≡ number_in (take (length line - p) (drop p line))
+        → (k + 1 ≡ length (numbers_in line)) × (w' ≡ sets o 0 (numbers_in line))
+    left_last h v =
+        let n : numbers_in (drop p line) ≡ x ∷ [] = rw (v ∙ number_rest p line) (numbers_last line p e l.end_is h) in
+        (omega (arith, l.count_is, ap length n), put ∙ sym (ap (λ (ns : List ℕ). sets w k ns) n) ∙ l.numbers_are)
 
-    total : k ≤ n → length (numbers_in line) ≡ k + length fields
-    total h = omega (arith, ap (length {A = ℕ}) l.numbers_are, length-append (take k ns) (map number_in fields), length-take k ns, length-map fields number_in, l.places)
+-- Numbers, one by one.
+module _ (ns : List ℕ) (i : ℕ) where
+  pub each_next : i < length ns → get_or ns i 0 < none → each_number (drop i ns) ≡ each_number (drop (i + 1) ns)
+  unfolding each_number
+  each_next h l = rw (add-one i, drop-cons ns i 0 h, lt-ltb (get_or ns i 0) none l)
 
-    pub left_few : k < n → fields ≡ [] → all_numbers n (numbers_in line) ≡ false
-    left_few h e = other_count n (numbers_in line) (λ z. omega (arith, total (omega arith), ap (length {A = List ℕ}) e))
+  pub each_not : i < length ns → none ≤ get_or ns i 0 → each_number (drop i ns) ≡ false
+  unfolding each_number
+  each_not h l = rw (drop-cons ns i 0 h, le-ltb (get_or ns i 0) none l)
 
-    pub left_many : (r : List ℕ) → k ≡ n → fields ≡ fields_of r → all_numbers n (numbers_in line) ≡ false
-    left_many r h e = other_count n (numbers_in line) (λ z. omega (arith, total (omega arith), ap (length {A = List ℕ}) e, some_field r))
-
-    pub left_all : n ≤ k → fields ≡ [] → (all_numbers n (numbers_in line) ≡ true) × (ns ≡ numbers_in line)
-    unfolding all_numbers
-    left_all h e =
-        let t : take k ns ≡ ns = take_all k ns (omega (arith, l.places)) in
-        let is : ns ≡ numbers_in line = sym (rw (e, append-nil, t) at l.numbers_are) in
-        (rw (← is, eq-eqb (length ns) n l.places) (rw t at l.each), is)
+  pub each_end : length ns ≤ i → each_number (drop i ns) ≡ true
+  unfolding each_number
+  each_end h = rw (drop_of_length-le ns h)
 
 each_lower : (ns : List ℕ) (i : ℕ) → each_number ns ≡ true → i < length ns → get_or ns i 0 < none
 unfolding each_number
@@ -129,7 +108,26 @@ each_lower [] i e h = absurd (omega arith)
 each_lower (x ∷ ns) zero e h = ltb-true x none (left (ltb x none) (each_number ns) e)
 each_lower (x ∷ ns) (suc i) e h = each_lower ns i (right (ltb x none) (each_number ns) e) (omega arith)
 
--- k fields that are numbers.
+-- As many numbers as places.
+put_all : (l ns : List ℕ) → length ns ≡ length l → sets l 0 ns ≡ ns
+put_all l ns e = sets-eq ns l 0 (omega arith) ∙ rw (drop_of_length-le l {i = 0 + length ns} (omega arith)) (append-nil ns)
+
+-- r + 1 numbers, put into places: whether there are as many, and each is a number.
+module _ (l ns x : List ℕ) (r : ℕ) (count : r + 1 ≡ length ns) (at : x ≡ sets l 0 ns) where
+  same_places : length x ≡ length l
+  same_places = ap length at ∙ length-sets l 0 ns
+
+  pub other_count : length x ≢ r + 1 → false ≡ all_numbers (length l) ns
+  unfolding all_numbers
+  other_count n = rw (ne_eqb (length ns) (length l) (λ e. n (omega (arith, same_places))))
+
+  pub same_count : length x ≡ r + 1 → each_number x ≡ all_numbers (length l) ns
+  unfolding all_numbers
+  same_count e =
+      let z : length ns ≡ length l = omega (arith, same_places) in
+      rw (eq-eqb (length ns) (length l) z) (ap each_number (at ∙ put_all l ns z))
+
+-- k fields that are numbers, and the k places that they were put into.
 module _ (k : ℕ) (ns : List ℕ) (good : all_numbers k ns ≡ true) where
   pub good_count : length ns ≡ k
   unfolding all_numbers
@@ -138,3 +136,12 @@ module _ (k : ℕ) (ns : List ℕ) (good : all_numbers k ns ≡ true) where
   pub good_number : (i : ℕ) → i < k → get_or ns i 0 < none
   unfolding all_numbers
   good_number i h = each_lower ns i (right (eqb (length ns) k) (each_number ns) good) (omega (arith, good_count))
+
+  pub good_places : (l x : List ℕ) → length l ≡ k → x ≡ sets l 0 ns → (x ≡ ns) × ((i : ℕ) → i < k → get_or x i 0 < none)
+  good_places l x e at =
+      let z : x ≡ ns = at ∙ put_all l ns (good_count ∙ sym e) in
+      (z, λ i h. rw z (good_number i h))
+
+-- numbers for as many places as there are are numbers for k of them
+pub array_good : {k : ℕ} (l ns : List ℕ) → length l ≡ k → all_numbers (length l) ns ≡ true → all_numbers k ns ≡ true
+array_good l ns len e = rw len at e

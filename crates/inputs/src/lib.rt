@@ -2,7 +2,7 @@
 // Inputs are numbered from 1, as the arguments are. The operating system's part is assumed, as the standard library says it.
 #![tactic(auto)]
 
-ghost use Rattle.std.specs.Prelude.{◌≡◌, ℕ, ◌<◌, ◌≤◌, ◌^◌, List, length, IfSome};
+ghost use Rattle.std.specs.Prelude.{◌≡◌, ℕ, ◌<◌, ◌≤◌, ◌^◌, List, length, replicate, IfSome, IfOk};
 ghost use Rattle.inputs.specs.Counts.{IsPrefixLen};
 ghost use Rattle.words.specs.Same.{same};
 ghost use Rattle.lines.specs.Lines.{Puts};
@@ -19,11 +19,35 @@ pub const LOG: usize = 32769;
 // The same of an input of the bench, of a drill or of a sizing.
 pub const TEXT: usize = 65537;
 
-// Whether two texts are the same.
+// Room for a log as bytes, all of them 0.
+pub fn log_bytes() -> [u8; LOG]
+    ensures zeros { result ≡ replicate 32769 0 }
+    ensures length { 32769 ≡ length result }
+{
+    [0; LOG]
+}
+
+// Room for an input of the others.
+pub fn text_bytes() -> [u8; TEXT]
+    ensures zeros { result ≡ replicate 65537 0 }
+    ensures length { 65537 ≡ length result }
+{
+    [0; TEXT]
+}
+
+// Whether two texts are the same. Byte by byte, since an edit is about a byte; `==` would leave it no place.
 pub fn is_same(text: &[u8], word: &[u8]) -> bool
     ensures { result ≡ same text.now word.now }
 {
-    text == word
+    if text.len() != word.len() {
+        return false;
+    }
+    for i in 0..text.len() {
+        if text[i] != word[i] {
+            return false;
+        }
+    }
+    true
 }
 
 // Reads until the bytes are full, the input ends or a read fails: how many are read. A `while`, since each read says how far it goes.
@@ -138,12 +162,18 @@ pub trait Prints<const ROOM: usize, const SIZE: usize> {
 
     ghost size_fits: { SIZE < 2 ^ 63 };
 
-    // Writes the print of each input. No clause can say what a terminal is given.
-    final fn print_each<R: Env + Files + StandardInput + Eprint + Print>(rt: &R) -> io::Result<()> {
+    // Writes the print of each input, and gives how many inputs there were: one at least. No clause can say what a terminal is given.
+    final fn print_each<R: Env + Files + StandardInput + Eprint + Print>(
+        rt: &R,
+    ) -> io::Result<usize>
+        ensures { IfOk result (λ n. 1 ≤ n) }
+    {
+        let mut printed = 0;
         for k in 1..end(rt) {
             print_input::<ROOM, SIZE, Self, R>(rt, k)?;
+            printed += 1;
         }
-        Ok(())
+        Ok(printed)
     }
 }
 

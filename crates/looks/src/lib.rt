@@ -11,7 +11,7 @@ ghost use Rattle.protocol.specs.Read.{stamp_in, looks_first, looks_again, looks_
 use common::Reader;
 use result::plain_cell;
 use words::cell::Cell;
-use words::stamp::{Stamp, no_stamp};
+use words::stamp::{Stamp, equal, no_stamp};
 
 pub mod result; // the cells that a read stores, and its end
 
@@ -46,7 +46,7 @@ pub fn looks_again(r: Reader, word: u64) -> Reader
     ensures { result ≡ looks_again r word }
 {
     Reader {
-        agree: stamp_in(r.look) == stamp_in(word),
+        agree: equal(stamp_in(r.look), stamp_in(word)),
         ..r
     }
 }
@@ -77,7 +77,7 @@ fn unstamped(word: u64) -> u64
 pub fn looks_third(r: Reader, word: u64) -> Reader
     ensures { result ≡ looks_third r word }
 {
-    let same = stamp_in(r.look) == stamp_in(word);
+    let same = equal(stamp_in(r.look), stamp_in(word));
     if !(r.agree && same) {
         return Reader {
             second: true,

@@ -6,7 +6,7 @@ ghost use Rattle.protocol.specs.Read.{read_ends, announcing, showing};
 use super::{stamp_in, value_in};
 use common::Reader;
 use words::cell::Cell;
-use words::stamp::{Stamp, no_stamp};
+use words::stamp::{Stamp, equal, no_stamp};
 
 // The read is over: the result's stamp is the reader's own.
 pub fn ends(r: Reader) -> Reader
@@ -46,7 +46,7 @@ pub fn shown(word: u64) -> Cell
     ensures { result ≡ showing word }
 {
     let stamp = stamp_in(word);
-    let value = if stamp == no_stamp() {
+    let value = if equal(stamp, no_stamp()) {
         0
     } else {
         value_in(word)

@@ -8,7 +8,7 @@ ghost use Rattle.prints.specs.Words.{bad_number, ending, most_calls, run_print, 
 use super::log::put_log;
 use super::refusals::put_refusals;
 use common::Done;
-use fields::{place_of, read_numbers};
+use fields::{place_of, read_array};
 use lines::Sink;
 use script::read_calls;
 
@@ -77,7 +77,7 @@ fn put_input(out: &mut Sink, bytes: &[u8])
     if end >= bytes.len() {
         return out.put_bad(1);
     }
-    match read_numbers::<2>(&bytes[..end]) {
+    match read_array(&bytes[..end], [0; 2]) {
         Some(first) => {
             let [n, start] = first;
             put_script(out, n, start, bytes, end + 1);

@@ -15,11 +15,10 @@ use Rattle.common.specs.declared.Reader.{Reader}
 use Rattle.common.specs.declared.State.{State}
 use Rattle.std.specs.Prelude.{Result, Ok, Err}
 use Rattle.std.specs.Result.{IsErrAnd}
-use Rattle.common.specs.declared.Done.{Done}
 use Rattle.common.specs.declared.Done.TheVariants.{Accepted, Moved}
 use Rattle.common.specs.declared.Refusal.{Refusal}
 use Rattle.common.specs.declared.Refusal.TheVariants.{Range, Busy, Full, Idle, Spent}
-use Rattle.common.specs.Answers.{reply}
+use Rattle.common.specs.Answers.{Answer, reply}
 use Rattle.common.specs.Head.{has_room, began, ended}
 use Rattle.common.specs.State.{reader_at, is_retired, as_counted, with_writer, with_reader, writer_begins, reader_begins, value_in}
 use Rattle.common.specs.Rules.{Rules, state_ok, InRange}
@@ -28,16 +27,15 @@ use Rattle.common.specs.Register.{begin_write_of, open_read, begin_read_of, step
 use Rattle.common.proofs.Range.{reader_open, reader_room, writer_open, writer_room}
 use Rattle.questions.specs.Asked.{asked_of, Passed}
 use Rattle.steps.specs.Contract.{TableOk, write_stepped, read_stepped}
-use Rattle.register.specs.Contract.{outcome, called_of}
+use Rattle.register.specs.Contract.{left}
 use Rattle.questions.proofs.Laws.{passed, goes_on, turned_down}
 
 -- Equal outcomes have equal replies.
 pub with_reply : {o q : Outcome} → o ≡ q → (o ≡ q) × (reply o.answer ≡ reply q.answer)
 with_reply e = (e, ap (λ (o : Outcome). reply o.answer) e)
 
-given_up : (s : State) (t l : List ℕ) (why : Refusal) (r : Result (Done × State) Refusal) → IsErrAnd r (λ x. x ≡ why)
-    → outcome (called_of s r) t l ≡ refused why s t l
-given_up s t l why (Ok made) e = absurd e
+given_up : (s : State) (t l : List ℕ) (why : Refusal) (a : Answer) → IsErrAnd a (λ x. x ≡ why) → left a s t l ≡ refused why s t l
+given_up s t l why (Ok done) e = absurd e
 given_up s t l why (Err x) e = ap (λ (y : Refusal). refused y s t l) e
 
 module _ (R : Rules) (s : State) (cells log : ℕ) (k : InRange R s cells log) where
@@ -220,18 +218,18 @@ module _ (R : Rules) (s : State) (t l : List ℕ) where
     retire_asked = goes_on R s t l 1 p _
 
     -- where the answer was passed on as `?` does
-    module _ (why : Refusal) (r : Result (Done × State) Refusal) (e : IsErrAnd r (λ x. x ≡ why)) where
-      pub read_refused : Is (Err why) 1 → outcome (called_of s r) t l ≡ begin_read_of R s t l p
+    module _ (why : Refusal) (a : Answer) (e : IsErrAnd a (λ x. x ≡ why)) where
+      pub read_refused : Is (Err why) 1 → left a s t l ≡ begin_read_of R s t l p
       unfolding begin_read_of
-      read_refused f = given_up s t l why r e ∙ turned_down R s t l 1 p _ why f
+      read_refused f = given_up s t l why a e ∙ turned_down R s t l 1 p _ why f
 
-      pub step_refused : Is (Err why) 0 → outcome (called_of s r) t l ≡ step_of R s t l p
+      pub step_refused : Is (Err why) 0 → left a s t l ≡ step_of R s t l p
       unfolding step_of
-      step_refused f = given_up s t l why r e ∙ turned_down R s t l 0 p _ why f
+      step_refused f = given_up s t l why a e ∙ turned_down R s t l 0 p _ why f
 
-      pub retire_refused : Is (Err why) 1 → outcome (called_of s r) t l ≡ retire_of R s t l p
+      pub retire_refused : Is (Err why) 1 → left a s t l ≡ retire_of R s t l p
       unfolding retire_of
-      retire_refused f = given_up s t l why r e ∙ turned_down R s t l 1 p _ why f
+      retire_refused f = given_up s t l why a e ∙ turned_down R s t l 1 p _ why f
 
 -- Set-up.
 pub all_set : (R : Rules) (n v fresh : ℕ) (t l : List ℕ) → 1 ≤ n → n ≤ 16 → R.cells n ≤ length t → 3 ≤ length l → length l ≤ 4096

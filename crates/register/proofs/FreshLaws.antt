@@ -4,8 +4,8 @@ use mathlib.Core.Path.{◌≡◌, sym, ap, ◌∙◌}
 use mathlib.Core.List.{List, ◌++◌, append-nil, append_assoc}
 use native.Mathlib.Nat.{mul-le-mul_left}
 use native.Mathlib.Omega.{arith}
-use lib.ListN.{length, take, drop, replicate, replicate-append-replicate}
-use lib.Seq.{take_at, drop_at, drop-drop}
+use lib.ListN.{length, take, drop, replicate, replicate-append-replicate, length-drop, drop_of_length-le}
+use lib.Seq.{take_at, drop_at, drop-drop, take_all}
 use Rattle.common.proofs.Buffers.{two_length}
 
 module _ (n own other : ℕ) where
@@ -38,3 +38,12 @@ module _ (n own other : ℕ) where
       let y : drop (n * i + n) (rows_of i ++ drop (n * i) t) ≡ drop (n * (i + 1)) t =
       sym (drop-drop n (n * i) (rows_of i ++ drop (n * i) t)) ∙ ap (drop n) (drop_at (rows_of i) (drop (n * i) t) (n * i) z) ∙ drop-drop n (n * i) t ∙ ap (λ (k : ℕ). drop k t) last in
       rw (e, take_at (rows_of i) (drop (n * i) t) (n * i) z, next_rows i h, y)
+
+-- A table whose end from `at` on has got n words at its front.
+pub filled_part : (t : List ℕ) (at n w : ℕ) → at ≤ length t
+    → take at t ++ ((replicate n w ++ drop n (take (length t - at) (drop at t))) ++ drop (length t - at) (drop at t))
+    ≡ (take at t ++ replicate n w) ++ drop (at + n) t
+filled_part t at n w h =
+    let e : length (drop at t) ≤ length t - at = omega (arith, length-drop at t) in
+    rw (take_all (length t - at) (drop at t) e, drop_of_length-le (drop at t) e, append-nil, drop-drop n at t)
+    (sym (append_assoc (take at t) (replicate n w) (drop (at + n) t)))

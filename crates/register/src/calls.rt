@@ -1,17 +1,17 @@
 // Begins, sub-steps and retirements, of either register. The state goes by value and comes back by value, and C lends the table and the log
-// apart from it. What a call consists of is inlined: each part would copy the state.
-ghost use Rattle.std.specs.Prelude.{◌≡◌, true, false, ◌-◌, ◌<◌, ◌≤◌, length, Ok};
+// apart from it. Within a call its parts work on one state in place, and leave it as it was where they refuse.
+ghost use Rattle.std.specs.Prelude.{◌≡◌, true, false, ◌-◌, ◌≤◌, length, Ok};
 ghost use Rattle.common.specs.Answers.{reply};
 ghost use Rattle.common.specs.Head.{began, ended};
-ghost use Rattle.common.specs.State.{reader_at, is_retired, with_reader};
+ghost use Rattle.common.specs.State.{reader_at, is_retired};
 ghost use Rattle.common.specs.Rules.{InRange};
 ghost use Rattle.common.specs.Register.{begin_write_of, begin_read_of, step_writer, step_reader, step_of, retire_of};
 ghost use Rattle.kinds.specs.Rules.{rules_of};
-ghost use Rattle.register.specs.Contract.{outcome, called_of};
+ghost use Rattle.register.specs.Contract.{outcome, left};
 
 use super::rows::add_row;
 use common::limits::{count_one, has_room};
-use common::{Done, Head, Reader, Refusal, State};
+use common::{Done, Head, Refusal, State};
 use kinds::{Counting, Protocol, Tickets};
 use looks::value_in;
 use questions::asked::ask;
@@ -25,25 +25,6 @@ use writer::state::open_writer;
 pub struct Called {
     pub answer: Result<Done, Refusal>,
     pub state: State,
-}
-
-impl Called {
-    // What a call on the state s gives, by what comes of it: what was done and the state then, or a refusal, behind which it is s.
-    #[inline(always)]
-    pub(crate) fn of(s: State, made: Result<(Done, State), Refusal>) -> Called
-        ensures { result ≡ called_of s made }
-    {
-        match made {
-            Ok((done, state)) => Called {
-                answer: Ok(done),
-                state,
-            },
-            Err(why) => Called {
-                answer: Err(why),
-                state: s,
-            },
-        }
-    }
 }
 
 // The head behind a begin, and its row.
@@ -70,45 +51,30 @@ fn ended(h: Head) -> Head
     }
 }
 
-// The state with another reader i + 1, and another head.
-#[inline(always)]
-fn with_reader(s: State, i: usize, r: Reader, head: Head) -> State
-    requires { i < 16 }
-    ensures { result ≡ with_reader s i r head }
-{
-    let mut readers = s.readers;
-    readers[i] = r;
-    State { head, readers, ..s }
-}
-
-#[inline(always)]
 fn write_begun<P: Protocol>(
-    s: State,
+    state: &mut State,
     table: &[u64],
     log: &mut [u64],
     value: u32,
-) -> Result<(Done, State), Refusal>
-    ensures { outcome (called_of s result) table.now log.new ≡ begin_write_of P.rules s table.now log.old value }
+) -> Result<Done, Refusal>
+    ensures { left result state.new table.now log.new ≡ begin_write_of P.rules state.old table.now log.old value }
 {
-    if !state_ok::<P>(s, table.len(), log.len()) {
+    if !state_ok::<P>(*state, table.len(), log.len()) {
         return Err(Refusal::Range);
     }
-    if s.writer.active {
+    if state.writer.active {
         return Err(Refusal::Busy);
     }
-    if !has_room(s.head) {
+    if !has_room(state.head) {
         return Err(Refusal::Full);
     }
-    if !P::may_write(s.writer) {
+    if !P::may_write(state.writer) {
         return Err(Refusal::Spent);
     }
-    add_row(log, s.head.used, 1, 0, value);
-    let state = State {
-        head: began(s.head),
-        writer: open_writer(s.writer, value),
-        ..s
-    };
-    Ok((Done::Accepted, state))
+    add_row(log, state.head.used, 1, 0, value);
+    state.head = began(state.head);
+    state.writer = open_writer(state.writer, value);
+    Ok(Done::Accepted)
 }
 
 // Begin a write of a value.
@@ -116,35 +82,37 @@ pub fn begin_write(s: State, table: &mut [u64], log: &mut [u64], value: u32) -> 
     ensures { (outcome result table.new log.new ≡ begin_write_of (rules_of s.head.counted) s table.old log.old value)
         × (reply result.answer ≡ reply (begin_write_of (rules_of s.head.counted) s table.old log.old value).answer) }
 {
+    let mut state = s;
     // Asked once in each public call: a generic function can not be handed on as a value, so four times.
-    if s.head.counted {
-        Called::of(s, write_begun::<Counting>(s, table, log, value))
+    let answer = if s.head.counted {
+        write_begun::<Counting>(&mut state, table, log, value)
     } else {
-        Called::of(s, write_begun::<Tickets>(s, table, log, value))
-    }
+        write_begun::<Tickets>(&mut state, table, log, value)
+    };
+    Called { answer, state }
 }
 
-#[inline(always)]
 fn read_begun<P: Protocol>(
-    s: State,
+    state: &mut State,
     table: &[u64],
     log: &mut [u64],
     p: u32,
-) -> Result<(Done, State), Refusal>
-    ensures { outcome (called_of s result) table.now log.new ≡ begin_read_of P.rules s table.now log.old p }
+) -> Result<Done, Refusal>
+    ensures { left result state.new table.now log.new ≡ begin_read_of P.rules state.old table.now log.old p }
 {
-    ask::<P>(s, table.len(), log.len(), 1, p)?;
+    ask::<P>(*state, table.len(), log.len(), 1, p)?;
     let i = p as usize - 1;
-    let r = s.readers[i];
+    let r = state.readers[i];
     if r.active {
         return Err(Refusal::Busy);
     }
-    if !has_room(s.head) {
+    if !has_room(state.head) {
         return Err(Refusal::Full);
     }
-    add_row(log, s.head.used, 3, p as u8, 0);
-    let state = with_reader(s, i, open_reader(r), began(s.head));
-    Ok((Done::Accepted, state))
+    add_row(log, state.head.used, 3, p as u8, 0);
+    state.head = began(state.head);
+    state.readers[i] = open_reader(r);
+    Ok(Done::Accepted)
 }
 
 // Begin a read by reader p.
@@ -152,66 +120,70 @@ pub fn begin_read(s: State, table: &mut [u64], log: &mut [u64], p: u32) -> Calle
     ensures { (outcome result table.new log.new ≡ begin_read_of (rules_of s.head.counted) s table.old log.old p)
         × (reply result.answer ≡ reply (begin_read_of (rules_of s.head.counted) s table.old log.old p).answer) }
 {
-    if s.head.counted {
-        Called::of(s, read_begun::<Counting>(s, table, log, p))
+    let mut state = s;
+    let answer = if s.head.counted {
+        read_begun::<Counting>(&mut state, table, log, p)
     } else {
-        Called::of(s, read_begun::<Tickets>(s, table, log, p))
-    }
+        read_begun::<Tickets>(&mut state, table, log, p)
+    };
+    Called { answer, state }
 }
 
 // A sub-step of the open write.
-#[inline(always)]
-fn step_writer<P: Steps>(s: State, table: &mut [u64], log: &mut [u64]) -> (Done, State)
-    requires { InRange P.rules s (length table.old) (length log.old) × (s.writer.active ≡ true) }
-    ensures { outcome (called_of s (Ok result)) table.new log.new ≡ step_writer P.rules s table.old log.old }
+fn step_writer<P: Steps>(state: &mut State, table: &mut [u64], log: &mut [u64]) -> Done
+    requires { InRange P.rules state.old (length table.old) (length log.old) × (state.old.writer.active ≡ true) }
+    ensures { left (Ok result) state.new table.new log.new ≡ step_writer P.rules state.old table.old log.old }
 {
-    let done = Done::Moved(s.writer.moved + 1);
-    let writer = P::write_step(s.writer, s.head.n, table);
-    if writer.active {
-        return (done, State { writer, ..s });
+    let w = state.writer;
+    let done = Done::Moved(w.moved + 1);
+    let next = P::write_step(w, state.head.n, table);
+    state.writer = next;
+    if next.active {
+        return done;
     }
-    add_row(log, s.head.used, 2, 0, 0);
-    let head = ended(s.head);
-    (done, State { head, writer, ..s })
+    add_row(log, state.head.used, 2, 0, 0);
+    state.head = ended(state.head);
+    done
 }
 
 // A sub-step of reader p's open read.
-#[inline(always)]
-fn step_reader<P: Steps>(s: State, table: &mut [u64], log: &mut [u64], p: u32) -> (Done, State)
-    requires { InRange P.rules s (length table.old) (length log.old) × (1 ≤ p) × (p ≤ s.head.n) × (is_retired s p ≡ false) × ((reader_at s (p - 1)).active ≡ true) }
-    ensures { outcome (called_of s (Ok result)) table.new log.new ≡ step_reader P.rules s table.old log.old p }
+fn step_reader<P: Steps>(state: &mut State, table: &mut [u64], log: &mut [u64], p: u32) -> Done
+    requires { InRange P.rules state.old (length table.old) (length log.old) × (1 ≤ p) × (p ≤ state.old.head.n) × (is_retired state.old p ≡ false) × ((reader_at state.old (p - 1)).active ≡ true) }
+    ensures { left (Ok result) state.new table.new log.new ≡ step_reader P.rules state.old table.old log.old p }
 {
     let i = p as usize - 1;
-    let done = Done::Moved(s.readers[i].moved + 1);
-    let next = P::read_step(s.readers[i], s.head.n, p, table);
+    let r = state.readers[i];
+    let done = Done::Moved(r.moved + 1);
+    let next = P::read_step(r, state.head.n, p, table);
+    state.readers[i] = next;
     if next.active {
-        return (done, with_reader(s, i, next, s.head));
+        return done;
     }
-    add_row(log, s.head.used, 4, p as u8, value_in(next.result));
-    (done, with_reader(s, i, next, ended(s.head)))
+    add_row(log, state.head.used, 4, p as u8, value_in(next.result));
+    state.head = ended(state.head);
+    done
 }
 
 // A sub-step of processor p, if it has an open operation (8).
-#[inline(always)]
 fn stepped<P: Steps>(
-    s: State,
+    state: &mut State,
     table: &mut [u64],
     log: &mut [u64],
     p: u32,
-) -> Result<(Done, State), Refusal>
-    ensures { outcome (called_of s result) table.new log.new ≡ step_of P.rules s table.old log.old p }
+) -> Result<Done, Refusal>
+    ensures { left result state.new table.new log.new ≡ step_of P.rules state.old table.old log.old p }
 {
-    ask::<P>(s, table.len(), log.len(), 0, p)?;
+    ask::<P>(*state, table.len(), log.len(), 0, p)?;
     if p == 0 {
-        if !s.writer.active {
+        if !state.writer.active {
             return Err(Refusal::Idle);
         }
-        return Ok(step_writer::<P>(s, table, log));
+        return Ok(step_writer::<P>(state, table, log));
     }
-    if !s.readers[p as usize - 1].active {
+    if !state.readers[p as usize - 1].active {
         return Err(Refusal::Idle);
     }
-    Ok(step_reader::<P>(s, table, log, p))
+    Ok(step_reader::<P>(state, table, log, p))
 }
 
 // A sub-step of processor p.
@@ -219,29 +191,30 @@ pub fn step(s: State, table: &mut [u64], log: &mut [u64], p: u32) -> Called
     ensures { (outcome result table.new log.new ≡ step_of (rules_of s.head.counted) s table.old log.old p)
         × (reply result.answer ≡ reply (step_of (rules_of s.head.counted) s table.old log.old p).answer) }
 {
-    if s.head.counted {
-        Called::of(s, stepped::<Counting>(s, table, log, p))
+    let mut state = s;
+    let answer = if s.head.counted {
+        stepped::<Counting>(&mut state, table, log, p)
     } else {
-        Called::of(s, stepped::<Tickets>(s, table, log, p))
-    }
+        stepped::<Tickets>(&mut state, table, log, p)
+    };
+    Called { answer, state }
 }
 
 // Reader p is in the set of the retired, and its operation counts as open no longer.
-#[inline(always)]
 fn retired<P: Protocol>(
-    s: State,
+    state: &mut State,
     table: &[u64],
     log: &[u64],
     p: u32,
-) -> Result<(Done, State), Refusal>
-    ensures { outcome (called_of s result) table.now log.now ≡ retire_of P.rules s table.now log.now p }
+) -> Result<Done, Refusal>
+    ensures { left result state.new table.now log.now ≡ retire_of P.rules state.old table.now log.now p }
 {
-    ask::<P>(s, table.len(), log.len(), 1, p)?;
+    ask::<P>(*state, table.len(), log.len(), 1, p)?;
     let i = p as usize - 1;
-    let r = s.readers[i];
-    let opens = s.head.opens - count_one(r.active) as u8;
-    let head = Head { opens, ..s.head };
-    Ok((Done::Accepted, with_reader(s, i, retire_reader(r), head)))
+    let r = state.readers[i];
+    state.head.opens = state.head.opens - count_one(r.active) as u8;
+    state.readers[i] = retire_reader(r);
+    Ok(Done::Accepted)
 }
 
 // Retire reader p, for good. The table and the log stay as they are: they are lent for question 4.
@@ -249,9 +222,11 @@ pub fn retire(s: State, table: &mut [u64], log: &mut [u64], p: u32) -> Called
     ensures { (outcome result table.new log.new ≡ retire_of (rules_of s.head.counted) s table.old log.old p)
         × (reply result.answer ≡ reply (retire_of (rules_of s.head.counted) s table.old log.old p).answer) }
 {
-    if s.head.counted {
-        Called::of(s, retired::<Counting>(s, table, log, p))
+    let mut state = s;
+    let answer = if s.head.counted {
+        retired::<Counting>(&mut state, table, log, p)
     } else {
-        Called::of(s, retired::<Tickets>(s, table, log, p))
-    }
+        retired::<Tickets>(&mut state, table, log, p)
+    };
+    Called { answer, state }
 }

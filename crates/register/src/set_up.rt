@@ -1,10 +1,10 @@
 // Set-up.
 ghost use Rattle.std.specs.Prelude.{◌≡◌, ◌++◌, ◌+◌, ◌-◌, ◌*◌, ◌≤◌, length, take, drop, replicate};
 ghost use Rattle.common.specs.Answers.{reply};
-ghost use Rattle.common.specs.SetUp.{fresh_state, no_state, set_up_of};
+ghost use Rattle.common.specs.SetUp.{no_state, set_up_of};
 ghost use Rattle.protocol.specs.Rules.{ticket_rules};
 ghost use Rattle.counted.specs.Rules.{counted_rules};
-ghost use Rattle.register.specs.Contract.{outcome, called_of};
+ghost use Rattle.register.specs.Contract.{outcome, left};
 
 use super::calls::Called;
 use super::rows::add_row;
@@ -13,20 +13,29 @@ use kinds::{Counting, Protocol, Tickets};
 use reader::fresh_reader;
 use writer::state::fresh_writer;
 
-fn fresh_state<P: Protocol>(n: u32, fresh: u32, rows: usize) -> State
-    ensures { result ≡ fresh_state P.rules.counted n fresh rows }
+// The state of no readers: a refused set-up's.
+fn no_state<P: Protocol>() -> State
+    ensures { result ≡ no_state P.rules.counted }
 {
     State {
         head: Head {
             counted: P::COUNTED,
             opens: 0,
-            n,
-            rows,
+            n: 0,
+            rows: 0,
             used: 1,
         },
-        writer: fresh_writer(fresh),
+        writer: fresh_writer(0),
         readers: [fresh_reader(); 16],
     }
+}
+
+// A word, to the first n places of a row.
+fn fill_row(row: &mut [u64], n: usize, word: u64)
+    requires { n ≤ length row.old }
+    ensures { row.new ≡ replicate n word ++ drop n row.old }
+{
+    row[..n].fill(word);
 }
 
 // A word, to the n cells of the row that starts at a place: the row is a part of the table.
@@ -34,7 +43,7 @@ fn fill_at(table: &mut [u64], at: usize, n: usize, word: u64)
     requires { at + n ≤ length table.old }
     ensures { table.new ≡ (take at table.old ++ replicate n word) ++ drop (at + n) table.old }
 {
-    table[at..at + n].fill(word);
+    fill_row(&mut table[at..], n, word);
 }
 
 // The fresh cells, the writer's first. Row by row, as each store has to reach its cell through a part of the table that starts at n times i.
@@ -48,14 +57,17 @@ fn fill_rows(table: &mut [u64], n: usize, rows: usize, own: u64, other: u64)
     }
 }
 
+// Set-up over the state of no readers, which stays where it is refused.
 fn fresh_register<P: Protocol>(
+    state: &mut State,
     n: u32,
     value: u32,
     fresh: u32,
     table: &mut [u64],
     log: &mut [u64],
-) -> Result<(Done, State), Refusal>
-    ensures { outcome (called_of (no_state P.rules.counted) result) table.new log.new ≡ set_up_of P.rules n value fresh table.old log.old }
+) -> Result<Done, Refusal>
+    requires { state.old ≡ no_state P.rules.counted }
+    ensures { left result state.new table.new log.new ≡ set_up_of P.rules n value fresh table.old log.old }
 {
     if n < 1 || 16 < n {
         return Err(Refusal::Readers);
@@ -77,7 +89,13 @@ fn fresh_register<P: Protocol>(
         P::other_word(fresh),
     );
     add_row(log, 0, 5, n as u8, value);
-    Ok((Done::Accepted, fresh_state::<P>(n, fresh, rows)))
+    state.head = Head {
+        n,
+        rows,
+        ..state.head
+    };
+    state.writer = fresh_writer(fresh);
+    Ok(Done::Accepted)
 }
 
 // A fresh register of n readers with a start value and, of the counted one, a fresh stamp, in the lent table and log.
@@ -90,10 +108,9 @@ pub fn set_up_of<P: Protocol>(
 ) -> Called
     ensures { outcome result table.new log.new ≡ set_up_of P.rules n value fresh table.old log.old }
 {
-    Called::of(
-        fresh_state::<P>(0, 0, 0),
-        fresh_register::<P>(n, value, fresh, table, log),
-    )
+    let mut state = no_state::<P>();
+    let answer = fresh_register::<P>(&mut state, n, value, fresh, table, log);
+    Called { answer, state }
 }
 
 // A fresh register of n readers with a start value, in the lent table and log.

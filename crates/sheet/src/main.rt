@@ -28,5 +28,6 @@ impl Prints<LOG, 2048> for Sheet {
 }
 
 fn main(rt: HostRuntime) -> io::Result<()> {
-    Sheet::print_each(&rt)
+    Sheet::print_each(&rt)?;
+    Ok(())
 }

@@ -6,7 +6,7 @@ ghost use Rattle.lines.specs.Adds.{Adds};
 ghost use Rattle.printing.specs.Sizing.{figures_line, answer_line, sizing_text, sizing_print};
 
 use super::size_of;
-use fields::read_one_line;
+use fields::read_line_array;
 use figures::{Figures, NoFigures};
 use lines::Sink;
 
@@ -60,7 +60,7 @@ fn put_sizing(out: &mut Sink, n: u32, writes: u32, reads: u32)
 fn put_input(out: &mut Sink, bytes: &[u8])
     ensures { Adds (sizing_print bytes.now) out.old out.new }
 {
-    match read_one_line::<3>(bytes, 65536) {
+    match read_line_array(bytes, 65536, [0; 3]) {
         Some(numbers) => {
             let [n, writes, reads] = numbers;
             put_sizing(out, n, writes, reads);

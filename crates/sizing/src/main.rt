@@ -27,5 +27,6 @@ impl Prints<TEXT, 256> for Sizing {
 }
 
 fn main(rt: HostRuntime) -> io::Result<()> {
-    Sizing::print_each(&rt)
+    Sizing::print_each(&rt)?;
+    Ok(())
 }

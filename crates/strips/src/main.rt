@@ -3,7 +3,7 @@
 #![tactic(auto)]
 
 use files::{restore_file, store_file};
-use inputs::{LOG, read_standard};
+use inputs::{is_same, log_bytes, read_standard};
 use lines::Sink;
 use std::env::Env;
 use std::io;
@@ -27,7 +27,7 @@ fn say(rt: &HostRuntime, made: Result<&[u8], Fault>) -> io::Result<()> {
 }
 
 fn store_input(rt: &HostRuntime) -> io::Result<()> {
-    let mut log = [0u8; LOG];
+    let mut log = log_bytes();
     let n = read_standard(rt, &mut log);
     let mut out = [0u8; FILE];
     let made = store_file(&log[..n], &mut out);
@@ -37,7 +37,7 @@ fn store_input(rt: &HostRuntime) -> io::Result<()> {
 fn restore_input(rt: &HostRuntime) -> io::Result<()> {
     let mut file = [0u8; FILE];
     let n = read_standard(rt, &mut file);
-    let mut out = [0u8; LOG];
+    let mut out = log_bytes();
     let made = restore_file(&file[..n], &mut out);
     say(rt, made.map(|count| &out[..count]))
 }
@@ -46,10 +46,12 @@ fn main(rt: HostRuntime) -> io::Result<()> {
     if inputs::end(&rt) == 2 {
         let mut text = [0u8; 4096];
         if let Ok(n) = rt.arg(1, &mut text) {
-            match &text[..n] {
-                b"store" => return store_input(&rt),
-                b"restore" => return restore_input(&rt),
-                _ => {}
+            let word = &text[..n];
+            if is_same(word, b"store") {
+                return store_input(&rt);
+            }
+            if is_same(word, b"restore") {
+                return restore_input(&rt);
             }
         }
     }

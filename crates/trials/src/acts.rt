@@ -30,7 +30,7 @@ pub(crate) enum Look {
 #[derive(Clone, Copy)]
 pub(crate) enum Act {
     Call {
-        call: Call,
+        call: Option<Call>,
         state_stays: bool,
         is_printed: bool,
     },
@@ -64,9 +64,11 @@ fn low(number: u64) -> u32 {
     (number % 4294967296) as u32
 }
 
-fn call(call: Call, how: u64) -> Act {
+// A call by its word. What is no number is one more than a number's largest, so a begin of a read by it is the word of a sub-step by 0, and a
+// retirement of it is no call's.
+fn call(word: u64, how: u64) -> Act {
     Act::Call {
-        call,
+        call: Call::from_word(word),
         state_stays: how == 1,
         is_printed: how != 2,
     }
@@ -106,10 +108,7 @@ impl Act {
         let fresh = low(b);
         let act = match kind {
             0 => return None,
-            1 => call(Call::Write(low(a)), b),
-            2 => call(Call::Read(low(a)), b),
-            3 => call(Call::Step(low(a)), b),
-            4 => call(Call::Retire(low(a)), b),
+            1..=4 => call((kind << 32) | a, b),
             5 => Act::Lend {
                 cells: at,
                 rows: b as usize,

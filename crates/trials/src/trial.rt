@@ -15,6 +15,9 @@ use register::calls::{Called, begin_read};
 use register::set_up::{set_up, set_up_counted};
 use std::io;
 
+// How many cells are watched: as many as 17 readers would need.
+const CELLS: usize = 306;
+
 // The state, and how many cells and rows are lent. The table and the log were tried as fields of the trial: the check has no rule for two
 // fields that are lent behind a reference at once, one of them in part.
 #[derive(Drop)]
@@ -26,19 +29,20 @@ struct Trial {
 
 impl Trial {
     // Makes a call through the entries over a lent state. To them processor 0 is the writer, so a read by processor 0 is begun by value;
-    // for a read the value is not looked at.
-    fn make(&mut self, call: Call, table: &mut [u64], log: &mut [u64]) -> Answer {
+    // for a read the value is not looked at. What is no call begins a write of 0.
+    fn make(&mut self, call: Option<Call>, table: &mut [u64], log: &mut [u64]) -> Answer {
         let state = &mut self.state;
         Answer(match call {
-            Call::Write(value) => register_begin(state, table, log, 0, value),
-            Call::Read(0) => {
+            Some(Call::Write(value)) => register_begin(state, table, log, 0, value),
+            Some(Call::Read(0)) => {
                 let called = begin_read(*state, table, log, 0);
                 *state = called.state;
                 answer_word(called.answer)
             }
-            Call::Read(p) => register_begin(state, table, log, p, 0),
-            Call::Step(p) => register_step(state, table, log, p),
-            Call::Retire(p) => register_retire(state, table, log, p),
+            Some(Call::Read(p)) => register_begin(state, table, log, p, 0),
+            Some(Call::Step(p)) => register_step(state, table, log, p),
+            Some(Call::Retire(p)) => register_retire(state, table, log, p),
+            None => register_begin(state, table, log, 0, 0),
         })
     }
 
@@ -46,25 +50,28 @@ impl Trial {
     fn call(
         &mut self,
         rt: &impl Print,
-        call: Call,
+        call: Option<Call>,
         is_printed: bool,
         table: &mut [u64; 4097],
         log: &mut [u64; 4097],
     ) -> io::Result<()> {
-        let state = self.state;
-        let cells = *table;
-        let rows = *log;
         let (lent_cells, lent_rows) = self.lent();
-        let answer = self.make(call, &mut table[..lent_cells], &mut log[..lent_rows]);
         if !is_printed {
+            self.make(call, &mut table[..lent_cells], &mut log[..lent_rows]);
             return Ok(());
         }
+        let state = self.state;
+        let mut cells = [0u64; CELLS];
+        let kept = lent_cells.min(CELLS);
+        cells[..kept].copy_from_slice(&table[..kept]);
+        let rows = *log;
+        let answer = self.make(call, &mut table[..lent_cells], &mut log[..lent_rows]);
         let shown = Shown(call);
         print!(rt; "; {shown}: {answer}")?;
         if answer.refusal().is_none() {
             return Ok(());
         }
-        if self.state == state && *table == cells && *log == rows {
+        if self.state == state && table[..kept] == cells[..kept] && *log == rows {
             print!(rt; ", unaltered")
         } else {
             print!(rt; ", altered")

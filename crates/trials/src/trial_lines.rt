@@ -3,10 +3,12 @@ use super::trial::try_acts;
 use fields::number_in;
 use std::io;
 
-// The numbers of a text, with a space between them, as many as there are places for. What is no number is 4294967296, which no field gives.
+// The numbers of a text, a space behind each but the last, as many as there are places for. What is no number is 4294967296, which no field gives.
 fn read_numbers(text: &[u8], numbers: &mut [u64]) {
-    for (place, field) in numbers.iter_mut().zip(text.split(|b| *b == b' ')) {
-        *place = number_in(field).map_or(4294967296, u64::from);
+    let fields = text.split_inclusive(|b| *b == b' ');
+    for (place, field) in numbers.iter_mut().zip(fields) {
+        let number = field.strip_suffix(b" ").unwrap_or(field);
+        *place = number_in(number).map_or(4294967296, u64::from);
     }
 }
 

@@ -28,5 +28,6 @@ impl Prints<LOG, 131072> for Verdict {
 }
 
 fn main(rt: HostRuntime) -> io::Result<()> {
-    Verdict::print_each(&rt)
+    Verdict::print_each(&rt)?;
+    Ok(())
 }

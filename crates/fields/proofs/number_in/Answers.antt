@@ -2,11 +2,8 @@ use native.Mathlib.Omega.{arith}
 use mathlib.Core.Path.{◌≡◌, sym, ◌∙◌}
 use Rattle.std.proofs.Common.{◌≢◌, length, rules}
 use Rattle.fields.specs.Fields.{none, number_in}
-use Rattle.fields.proofs.FieldLaws.{number_none, number_is, digits_end, digits_go, digits_stop}
+use Rattle.fields.proofs.FieldLaws.{number_is, digits_end, digits_go, digits_stop}
 use Rattle.fields.proofs.number_in.Goals as goal
-
-pub returns-then-is_empty : goal.returns-then-is_empty
-returns-then-is_empty c = sym (number_none _ (search rules))
 
 pub returns-in_err-v : goal.returns-in_err-v
 returns-in_err-v c =

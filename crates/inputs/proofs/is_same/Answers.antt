@@ -1,19 +1,19 @@
-use Prim.Native.Nat.{ℕ}
-use mathlib.Core.Path.{◌≡◌, refl, ap, ◌∙◌}
-use mathlib.Core.Bool.{◌&&◌}
-use mathlib.Core.List.{List, [], ◌∷◌}
-use lib.Dec.{eqb}
-use lib.Pointwise.{pointwise}
+use Rattle.std.proofs.Common.{◌≡◌, ℕ, List, length, get_or, ap, sym, arith}
+use lib.Seq.{ext_get_or}
 use Rattle.words.specs.Same.{same}
+use Rattle.words.proofs.Laws.Choice.{T→true, not→false}
+use Rattle.words.proofs.Laws.Same.{same→, →same}
 use Rattle.inputs.proofs.is_same.Goals as goal
 
--- what `==` says of two slices
-by_bytes : (l m : List ℕ) → pointwise eqb l m ≡ same l m
-unfolding same
-by_bytes [] [] = refl
-by_bytes [] (y ∷ m) = refl
-by_bytes (x ∷ l) [] = refl
-by_bytes (x ∷ l) (y ∷ m) = ap (eqb x y &&◌) (by_bytes l m)
+pub returns-then-text-word : goal.returns-then-text-word
+returns-then-text-word c = sym (not→false (same _ _) (λ t. c.if-text-word.true (ap (length {A = ℕ}) (same→ _ _ t))))
+
+pub returns-then-text-i : goal.returns-then-text-i
+returns-then-text-i c =
+    let i = c.loop-i.i in
+    sym (not→false (same _ _) (λ t.
+    let same_byte : get_or c.args.text.now i 0 ≡ get_or c.args.word.now i 0 = ap (λ (l : List ℕ). get_or l i 0) (same→ _ _ t) in
+    omega arith))
 
 pub returns : goal.returns
-returns c = c.eq.ensures ∙ by_bytes _ _
+returns c = sym (T→true (same _ _) (→same _ _ (ext_get_or 0 _ _ c.loop-i.invariant.1 (λ j a. c.loop-i.invariant.2 j (omega arith)))))

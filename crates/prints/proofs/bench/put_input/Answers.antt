@@ -10,8 +10,8 @@ returns-then-bytes-gt65536 c = too_long _ (omega (arith, c.if-bytes-gt65536.true
 pub returns-then-end-bytes : goal.returns-then-end-bytes
 returns-then-end-bytes c = no_feed _ _ c.if-bytes-gt65536.false c.place_of-end.ensures c.if-end-bytes.true c.put_bad-then-end-bytes.ensures
 
-pub slice_bounds-read_numbers-end : goal.slice_bounds-read_numbers-end
-slice_bounds-read_numbers-end c = omega (arith, length-take c.place_of-end.result c.args.bytes.now)
+pub slice_bounds-read_array-end : goal.slice_bounds-read_array-end
+slice_bounds-read_array-end c = omega (arith, length-take c.place_of-end.result c.args.bytes.now)
 
 pub returns-in-Some : goal.returns-in-Some
 returns-in-Some c =

@@ -21,5 +21,5 @@ returns g c =
     let a = c.args in
     let P = g.met.P.Protocol in
     let cells = c.cells-cells.ensures in
-    rw (c.fill_rows.ensures, cells, P.whole_rows a.n, c.own_word.ensures, c.other_word.ensures, P.fresh_are a.n a.value a.fresh, c.add_row.ensures, c.fresh_state.ensures)
+    rw (c.fill_rows.ensures, cells, P.whole_rows a.n, c.own_word.ensures, c.other_word.ensures, P.fresh_are a.n a.value a.fresh, c.add_row.ensures, c.fresh_writer-state.ensures, c.requires)
     (all_set g.P.Protocol.rules a.n a.value a.fresh a.table.now a.log.now (omega arith) (omega arith) (omega (arith, cells)) (omega arith) (omega arith))
